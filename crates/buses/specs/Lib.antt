@@ -1,0 +1,4 @@
+pub mod Image
+pub mod Images
+pub mod Fitting
+pub mod Memory
