@@ -109,3 +109,7 @@ write-then-read s t u v d b xs was is w z r =
     ∙ ap (λ k. block k d b) (w .stored)
     ∙ ap (λ k. getD (k .blocks) b []) (at-set s d _ (w .placed .exists))
     ∙ getD-set-same (at s d .blocks) b xs [] (w .placed .within)
+
+pub writes-count : {U : Type 0} (s t : List Drive) (d b : ℕ) (xs : List ℕ) (r : Result U BusFault) → Writes s t d b xs r → length t ≡ length s
+writes-count s t d b xs (Ok u) q = ap length (q .stored) ∙ length-set s d _
+writes-count s t d b xs (Err e) q = faults-worsen s t d b (length xs) e q .count

@@ -1,2 +1,4 @@
 pub mod Pieces
 pub mod Locating
+pub mod Joining
+pub mod Marking

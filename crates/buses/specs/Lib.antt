@@ -2,3 +2,5 @@ pub mod Image
 pub mod Images
 pub mod Fitting
 pub mod Memory
+pub mod Joined
+pub mod Breaking
