@@ -1,11 +1,11 @@
 -- A request to drives in a row of bytes.
 use mathlib.Core.Path.{_≡_, refl, sym, ap, _∙_}
-use mathlib.Core.List.{List}
+use mathlib.Core.List.{List, _++_}
 use Prim.Native.Nat.{ℕ, _+_, _*_, _<_, _≤_}
 use native.Mathlib.Omega.{arith}
 use borrow.Rule.Slice.PartMut.{putMid}
 use lib.ListN.{length, take, drop}
-use Rattle.std.proofs.shelf.Lists.{length-append, length-take, length-drop}
+use Rattle.std.proofs.shelf.Lists.{length-append, length-take, length-drop, drop-drop}
 use Rattle.std.specs.declared.result.Result.{Result}
 use Rattle.std.specs.declared.result.Result.the-variants.{Ok, Err}
 use Rattle.bus.specs.declared.fault.BusFault.{BusFault}
@@ -95,3 +95,9 @@ module _ (xs : List ℕ) (n cap d b len a : ℕ) (found : Located xs n cap d b l
             ∙ ap (λ l. image (putMid p 512 xs zs) (fitting l n cap) cap) size
             ∙ written xs zs (fitting (length xs) n cap) cap d b there within (filled-by xs n cap d b len there) whole;
       }
+
+  pub found-after : (ys zs : List ℕ) (w : ℕ) → w ≡ 512 → ys ≡ zs → putMid a w xs ys ≡ take ((d * cap + b) * 512) xs ++ (zs ++ drop ((d * cap + b) * 512 + 512) xs)
+  found-after ys zs w ew ey =
+      let p = (d * cap + b) * 512 in
+      let same : putMid a w xs ys ≡ putMid p 512 xs zs = let i = found .begins in cc in
+      same ∙ ap (λ v. take p xs ++ (zs ++ v)) (drop-drop 512 p xs)

@@ -1,8 +1,8 @@
 -- The drives of a memory bus, and what its requests answer beyond the rule of every bus.
 use mathlib.Core.Path.{_≡_}
-use mathlib.Core.List.{List}
+use mathlib.Core.List.{List, _++_}
 use Prim.Native.Nat.{ℕ, _+_, _*_, _≤_}
-use lib.ListN.{length}
+use lib.ListN.{length, take, drop}
 use denote.Ref.{now}
 use Rattle.std.specs.declared.result.Result.{Result}
 use Rattle.std.specs.declared.result.Result.the-variants.{Ok, Err}
@@ -35,3 +35,8 @@ Unbroken (Err e) = number-of e ≡ 9 → ⊥
 abbrev pub Locates : List ℕ → ℕ → ℕ → ℕ → ℕ → ℕ → Result ℕ BusFault → Type 0
 Locates xs n cap d b len (Ok a) = Located xs n cap d b len a
 Locates xs n cap d b len (Err e) = Faults (held xs n cap) (held xs n cap) d b len e × (number-of e ≡ 9 → ⊥)
+
+-- what a write leaves of the lent bytes: xs before, ys after
+abbrev pub Overwrites : {U : Type 0} → List ℕ → List ℕ → ℕ → ℕ → ℕ → List ℕ → Result U BusFault → Type 0
+Overwrites xs ys cap d b new (Ok u) = ys ≡ take ((d * cap + b) * 512) xs ++ (new ++ drop ((d * cap + b) * 512 + 512) xs)
+Overwrites xs ys cap d b new (Err e) = ys ≡ xs

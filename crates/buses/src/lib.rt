@@ -10,4 +10,5 @@ pub use joined::JoinedBus;
 pub use joined::JoinedBusBus;
 pub use memory::MemoryBus;
 pub use memory::MemoryBusBus;
+pub use memory::write_image;
 pub use misfit::Misfit;

@@ -1,10 +1,10 @@
 ghost use mathlib.Core.Path.{_≡_};
 ghost use Prim.Native.Nat.{ℕ, _+_, _*_, _^_, _<_, _≤_};
-ghost use lib.ListN.{length, take, drop};
+ghost use lib.ListN.{length};
 ghost use denote.Ref.{now, name};
 ghost use Rattle.bus.specs.Requests.{Reads, Writes};
 ghost use Rattle.buses.specs.Fitting.{FitsMemory, fitting, sound-fitting};
-ghost use Rattle.buses.specs.Memory.{held, memory-drives, Locates, Unbroken};
+ghost use Rattle.buses.specs.Memory.{held, memory-drives, Locates, Unbroken, Overwrites};
 use crate::misfit::Misfit;
 use bus::BLOCK;
 use bus::Bus;
@@ -99,12 +99,14 @@ impl<'a> MemoryBus<'a> {
         Ok(start_of(self.capacity, d, b))
     }
 
-    fn get(&self, a: usize, to: &mut [u8])
-        requires room { ⌜ a + 512 ≤ length (now (now self .bytes)) ⌝ }
-        requires whole { ⌜ length (now to) ≡ 512 ⌝ }
-        ensures { λ _. ⌜ now (to .exit) ≡ take 512 (drop a (now (now (self .entry) .bytes))) ⌝ }
+    // The block `b` of the drive `d`, for who may only look.
+    pub fn peek(&self, d: usize, b: usize, buf: &mut [u8]) -> Result<(), BusFault>
+        ensures reads { λ r. ⌜ Reads (memory-drives (now (self .entry))) (memory-drives (now (self .entry))) d b (now (buf .entry)) (now (buf .exit)) r ⌝ }
+        ensures unbroken { λ r. ⌜ Unbroken r ⌝ }
     {
-        to.copy_from_slice(&self.bytes[a..a + BLOCK]);
+        let a = self.locate(d, b, buf.len())?;
+        buf.copy_from_slice(&self.bytes[a..a + BLOCK]);
+        Ok(())
     }
 }
 
@@ -135,14 +137,13 @@ pub impl<'a> Bus for MemoryBus<'a> as MemoryBusBus {
         ensures number { λ _. ⌜ now (self .exit) .number ≡ now (self .entry) .number ⌝ }
         ensures capacity { λ _. ⌜ now (self .exit) .capacity ≡ now (self .entry) .capacity ⌝ }
     {
-        let a = self.locate(d, b, buf.len())?;
-        self.get(a, buf);
-        Ok(())
+        self.peek(d, b, buf)
     }
 
     fn write(&mut self, d: usize, b: usize, bytes: &[u8]) -> Result<(), BusFault>
         ensures writes { λ r. ⌜ Writes (memory-drives (now (self .entry))) (memory-drives (now (self .exit))) d b (now (bytes .entry)) r ⌝ }
         ensures unbroken { λ r. ⌜ Unbroken r ⌝ }
+        ensures after { λ r. ⌜ Overwrites (now (now (self .entry) .bytes)) (now (now (self .exit) .bytes)) (now (self .entry) .capacity) d b (now (bytes .entry)) r ⌝ }
         ensures named { λ _. ⌜ name (now (self .exit) .bytes) ≡ name (now (self .entry) .bytes) ⌝ }
         ensures number { λ _. ⌜ now (self .exit) .number ≡ now (self .entry) .number ⌝ }
         ensures capacity { λ _. ⌜ now (self .exit) .capacity ≡ now (self .entry) .capacity ⌝ }
@@ -151,4 +152,20 @@ pub impl<'a> Bus for MemoryBus<'a> as MemoryBusBus {
         copy_block(&mut self.bytes[a..a + BLOCK], bytes);
         Ok(())
     }
+}
+
+// One write to the drives in `memory`, which is known to its owner afterwards.
+pub fn write_image(
+    memory: &mut [u8],
+    number: usize,
+    capacity: usize,
+    d: usize,
+    b: usize,
+    bytes: &[u8],
+) -> Result<(), BusFault>
+    ensures writes { λ r. ⌜ Writes (held (now (memory .entry)) number capacity) (held (now (memory .exit)) number capacity) d b (now (bytes .entry)) r ⌝ }
+    ensures after { λ r. ⌜ Overwrites (now (memory .entry)) (now (memory .exit)) capacity d b (now (bytes .entry)) r ⌝ }
+{
+    let mut bus = MemoryBus::new(memory, number, capacity);
+    bus.write(d, b, bytes)
 }
