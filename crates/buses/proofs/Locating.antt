@@ -8,6 +8,7 @@ use lib.ListN.{length, take, drop}
 use Rattle.std.proofs.shelf.Lists.{length-append, length-take, length-drop, drop-drop}
 use Rattle.std.specs.declared.result.Result.{Result}
 use Rattle.std.specs.declared.result.Result.the-variants.{Ok, Err}
+use Rattle.std.specs.declared.option.Option.the-variants.{Some}
 use Rattle.bus.specs.declared.fault.BusFault.{BusFault}
 use Rattle.bus.specs.declared.fault.BusFault.the-variants.{NoDrive, Length, Range, Broken}
 use Rattle.bus.specs.Drives.{stored}
@@ -15,7 +16,7 @@ use Rattle.bus.specs.Requests.{Placed, Faults, ReadBy, WroteBy}
 use Rattle.buses.specs.Image.{image}
 use Rattle.buses.specs.Images.{room, count-is, size-is, working-is, block-is}
 use Rattle.buses.specs.Fitting.{Fit, fitting, fit-from-drive}
-use Rattle.buses.specs.Memory.{held, Located, Locates}
+use Rattle.buses.specs.Memory.{held, Located, Locates, Refuses}
 use Rattle.buses.proofs.Pieces.{written}
 
 length-put : (xs ys : List ℕ) (a : ℕ) → a + 512 ≤ length xs → length ys ≡ 512 → length (putMid a 512 xs ys) ≡ length xs
@@ -25,22 +26,16 @@ module _ (xs : List ℕ) (n cap d b len : ℕ) where
   abbrev pub many : ℕ
   many = fitting (length xs) n cap
 
-  pub no-drive : many ≤ d → Locates xs n cap d b len (Err (NoDrive d b))
-  no-drive h =
-      ((record { drive = refl; place = refl }, record { beyond = omega (arith, count-is xs many cap); same = refl }), λ e. omega arith)
-
-  pub wrong-length : d < many → (len ≡ 512 → ⊥) → Locates xs n cap d b len (Err (Length d b))
-  wrong-length h k =
-      ((record { drive = refl; place = refl }, record { exists = omega (arith, count-is xs many cap); other = k; same = refl }), λ e. omega arith)
-
-  pub out-of-range : d < many → len ≡ 512 → cap ≤ b → Locates xs n cap d b len (Err (Range d b))
-  out-of-range h k l = (
-    (
-      record { drive = refl; place = refl },
-      record { exists = omega (arith, count-is xs many cap); whole = k; beyond = omega (arith, size-is xs many cap d h); same = refl },
-    ),
+  -- what is wrong with a request is its fault
+  pub refused : (e : BusFault) → Refuses many cap d b len (Some e) → Locates xs n cap d b len (Err e)
+  refused (NoDrive i j) q = ((q .0, record { beyond = omega (arith, count-is xs many cap, q .1); same = refl }), λ e. omega arith)
+  refused (Length i j) q =
+      ((q .0, record { exists = omega (arith, count-is xs many cap, q .1); other = q .2; same = refl }), λ e. omega arith)
+  refused (Range i j) q = (
+    (q .0, record { exists = omega (arith, count-is xs many cap, q .1); whole = q .2; beyond = omega (arith, size-is xs many cap d (q .1), q .3); same = refl }),
     λ e. omega arith,
   )
+  refused (Broken i j) q = absurd q
 
   module _ (dn : d < many) where
     fit : Fit (length xs) n cap

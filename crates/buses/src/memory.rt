@@ -4,7 +4,7 @@ ghost use lib.ListN.{length};
 ghost use denote.Ref.{now, name};
 ghost use Rattle.bus.specs.Requests.{Reads, Writes};
 ghost use Rattle.buses.specs.Fitting.{FitsMemory, fitting, sound-fitting};
-ghost use Rattle.buses.specs.Memory.{held, memory-drives, Locates, Unbroken, Overwrites};
+ghost use Rattle.buses.specs.Memory.{held, memory-drives, Locates, Refuses, Unbroken, Overwrites};
 use crate::misfit::Misfit;
 use bus::BLOCK;
 use bus::Bus;
@@ -28,6 +28,22 @@ fn start_of(capacity: usize, d: usize, b: usize) -> usize
     ensures bound { λ r. ⌜ r < 2 ^ 32 ⌝ }
 {
     (d * capacity + b) * BLOCK
+}
+
+// What is wrong with a request to one of `n` drives of `capacity` blocks, in the order in which it is asked.
+fn refusal(n: usize, capacity: usize, d: usize, b: usize, len: usize) -> Option<BusFault>
+    ensures { λ r. ⌜ Refuses n capacity d b len r ⌝ }
+{
+    if d >= n {
+        return Some(BusFault::NoDrive { drive: d, block: b });
+    }
+    if len != BLOCK {
+        return Some(BusFault::Length { drive: d, block: b });
+    }
+    if b >= capacity {
+        return Some(BusFault::Range { drive: d, block: b });
+    }
+    None
 }
 
 // Drives of one capacity in memory that the caller lends and gets back; they never break.
@@ -86,17 +102,10 @@ impl<'a> MemoryBus<'a> {
     fn locate(&self, d: usize, b: usize, len: usize) -> Result<usize, BusFault>
         ensures { λ r. ⌜ Locates (now (now (self .entry) .bytes)) (now (self .entry) .number) (now (self .entry) .capacity) d b len r ⌝ }
     {
-        let n = self.present();
-        if d >= n {
-            return Err(BusFault::NoDrive { drive: d, block: b });
+        match refusal(self.present(), self.capacity, d, b, len) {
+            Some(fault) => Err(fault),
+            None => Ok(start_of(self.capacity, d, b)),
         }
-        if len != BLOCK {
-            return Err(BusFault::Length { drive: d, block: b });
-        }
-        if b >= self.capacity {
-            return Err(BusFault::Range { drive: d, block: b });
-        }
-        Ok(start_of(self.capacity, d, b))
     }
 
     // The block `b` of the drive `d`, for who may only look.
@@ -105,7 +114,7 @@ impl<'a> MemoryBus<'a> {
         ensures unbroken { λ r. ⌜ Unbroken r ⌝ }
     {
         let a = self.locate(d, b, buf.len())?;
-        buf.copy_from_slice(&self.bytes[a..a + BLOCK]);
+        copy_block(buf, &self.bytes[a..a + BLOCK]);
         Ok(())
     }
 }
@@ -125,8 +134,8 @@ pub impl<'a> Bus for MemoryBus<'a> as MemoryBusBus {
     }
 
     fn broken(&self, d: usize) -> bool {
-        let n = self.present();
-        d >= n
+        let present = self.present();
+        d >= present
     }
 
     fn read(&mut self, d: usize, b: usize, buf: &mut [u8]) -> Result<(), BusFault>

@@ -1,37 +1,33 @@
+use mathlib.Core.Path.{subst}
 use native.Mathlib.Omega.{arith}
 use Prim.Native.Nat.{_<_}
 use lib.ListN.{length}
+use Rattle.std.specs.declared.option.Option.the-variants.{Some}
 use Rattle.buses.specs.Fitting.{fitting}
-use Rattle.buses.proofs.Locating.{no-drive, wrong-length, out-of-range, few-drives, small-drives, located}
+use Rattle.buses.specs.Memory.{Refuses}
+use Rattle.buses.proofs.Locating.{refused, few-drives, small-drives, located}
 use Rattle.buses.proofs.memory.MemoryBus.locate.Needs as need
-
-pub returns-then-d-n : need.returns-then-d-n
-returns-then-d-n c =
-    let m = c .args .self .now in
-    no-drive (m .bytes .now) (m .number) (m .capacity) (c .args .d) (c .args .b) (c .args .len) (omega arith)
-
-pub returns-then-len-ne-BLOCK : need.returns-then-len-ne-BLOCK
-returns-then-len-ne-BLOCK c =
-    let m = c .args .self .now in
-    wrong-length (m .bytes .now) (m .number) (m .capacity) (c .args .d) (c .args .b) (c .args .len) (omega arith) (c .if-len-ne-BLOCK .taken)
-
-pub returns-then-b-self : need.returns-then-b-self
-returns-then-b-self c =
-    let m = c .args .self .now in
-    out-of-range (m .bytes .now) (m .number) (m .capacity) (c .args .d) (c .args .b) (c .args .len) (omega arith) (c .if-len-ne-BLOCK .left) (c .if-b-self .taken)
 
 pub start-of-requires : need.start-of-requires
 start-of-requires c κs =
     let m = c .args .self .now in
+    let ok = c .in-None .ensures tt in
     let dn : c .args .d < fitting (length (m .bytes .now)) (m .number) (m .capacity) = omega arith in
     record {
       few = few-drives (m .bytes .now) (m .number) (m .capacity) (c .args .d) (c .args .b) (c .args .len) dn;
       small = small-drives (m .bytes .now) (m .number) (m .capacity) (c .args .d) (c .args .b) (c .args .len) dn;
-      within = c .if-b-self .left;
+      within = ok .2;
     }
 
-pub returns : need.returns
-returns c =
+pub returns-in-Some : need.returns-in-Some
+returns-in-Some c =
     let m = c .args .self .now in
+    refused (m .bytes .now) (m .number) (m .capacity) (c .args .d) (c .args .b) (c .args .len) (c .in-Some .fault)
+    (subst (λ k. Refuses k (m .capacity) (c .args .d) (c .args .b) (c .args .len) (Some (c .in-Some .fault))) (c .present .ensures) (c .in-Some .ensures tt))
+
+pub returns-in-None : need.returns-in-None
+returns-in-None c =
+    let m = c .args .self .now in
+    let ok = c .in-None .ensures tt in
     let dn : c .args .d < fitting (length (m .bytes .now)) (m .number) (m .capacity) = omega arith in
-    located (m .bytes .now) (m .number) (m .capacity) (c .args .d) (c .args .b) (c .args .len) dn (c .start-of .result) (c .if-len-ne-BLOCK .left) (c .if-b-self .left) (c .start-of .ensures .value)
+    located (m .bytes .now) (m .number) (m .capacity) (c .args .d) (c .args .b) (c .args .len) dn (c .start-of .result) (ok .1) (ok .2) (c .start-of .ensures .value)

@@ -11,7 +11,7 @@ returns c =
     let a = c .in-Continue-a .a in
     let size : a + 512 - a ≡ 512 = omega arith in
     record {
-      reads = found-read (m .bytes .now) (m .number) (m .capacity) (c .args .d) (c .args .b) (length (c .args .buf .now)) a (c .in-Continue-a .ensures tt) (c .args .buf .now) (c .copy-from-slice .last .self) refl
-          (c .copy-from-slice .ensures .after ∙ ap (λ w. take w (drop a (m .bytes .now))) size);
+      reads = found-read (m .bytes .now) (m .number) (m .capacity) (c .args .d) (c .args .b) (length (c .args .buf .now)) a (c .in-Continue-a .ensures tt) (c .args .buf .now) (c .copy-block .last .block) refl
+          (c .copy-block .ensures ∙ ap (λ w. take w (drop a (m .bytes .now))) size);
       unbroken = tt;
     }

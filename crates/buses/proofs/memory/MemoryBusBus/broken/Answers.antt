@@ -11,7 +11,7 @@ pub returns : need.returns
 returns c =
     let m = c .args .self .now in
     let d = c .args .d in
-    let n = c .present-n .result in
+    let n = c .present-present .result in
     ⊎-elim
     (λ h. lt-leb n d h ∙ sym (working-is (m .bytes .now) (fitting (length (m .bytes .now)) (m .number) (m .capacity)) (m .capacity) d (omega arith)))
     (λ h. le-leb n d h ∙ sym (ap (λ v. v .broken) (at-beyond (m .bytes .now) (fitting (length (m .bytes .now)) (m .number) (m .capacity)) (m .capacity) d (omega arith))))
