@@ -1,0 +1,177 @@
+// The console: reads a script, one call to a line, carries each out, and prints one answer for each.
+mod answer;
+mod request;
+mod shelf;
+mod wrong;
+
+use crate::answer::carry_out;
+use crate::answer::number_refused;
+use crate::request::Drives;
+use crate::request::Request;
+use crate::request::parse;
+use crate::shelf::Memory;
+use crate::shelf::Shelf;
+use crate::shelf::sizes;
+use crate::wrong::Wrong;
+use buses::JoinedBusBus;
+use buses::MemoryBusBus;
+use script::show_number;
+use std::alloc::AllocError;
+use std::alloc::Global;
+use std::error::AnyError;
+use std::io;
+use std::io::BufRead;
+use std::io::BufReader;
+use std::io::BufWriter;
+use std::io::Write;
+
+// A script as it is read, and what is printed of it.
+#[derive(Drop)]
+struct Console<R, W> {
+    heap: Global,
+    input: R,
+    output: W,
+    // The line that is read, and its number from 1.
+    line: Vec<u8>,
+    number: u64,
+    // What is printed of it.
+    out: Vec<u8>,
+    // Whether a line was malformed.
+    malformed: bool,
+}
+
+// What a line comes to.
+#[derive(Drop)]
+enum Turn {
+    // It was carried out, or not.
+    On,
+    // It starts anew with other drives.
+    Anew(Memory),
+}
+
+impl<R: BufRead, W: Write> Console<R, W> {
+    // Reads a line without its end; false where there is none.
+    fn read_line(&mut self) -> io::Result<bool> {
+        self.line.clear();
+        let n = self.input.read_until(b'\n', &mut self.line)?;
+        if n == 0 {
+            return Ok(false);
+        }
+        if self.line.last().copied() == Some(b'\n') {
+            let _ = self.line.pop();
+        }
+        self.number = self.number.saturating_add(1);
+        Ok(true)
+    }
+
+    // Prints what the line came to, if anything.
+    fn print(&mut self) -> io::Result<()> {
+        if self.out.is_empty() {
+            return Ok(());
+        }
+        self.out.push(b'\n')?;
+        self.output.write_all(self.out.as_slice())?;
+        self.out.clear();
+        Ok(())
+    }
+
+    fn complain(&mut self, wrong: Wrong) -> Result<(), AllocError> {
+        self.malformed = true;
+        self.out.clear();
+        self.out.extend_from_slice(b"error: ")?;
+        show_number(self.number, &mut self.out)?;
+        self.out.extend_from_slice(b": ")?;
+        self.out.extend_from_slice(wrong.text())
+    }
+
+    // New memory for a script's drives, where they fit a bus.
+    fn start(&mut self, drives: Drives) -> Result<Turn, AllocError> {
+        match sizes(drives) {
+            Err(misfit) => {
+                number_refused(&mut self.out, misfit.number())?;
+                Ok(Turn::On)
+            }
+            Ok((first, second)) => match Memory::new(self.heap, drives, first, second) {
+                Ok(memory) => {
+                    self.out.extend_from_slice(b"ok")?;
+                    Ok(Turn::Anew(memory))
+                }
+                Err(wrong) => {
+                    self.complain(wrong)?;
+                    Ok(Turn::On)
+                }
+            },
+        }
+    }
+
+    // Carries out the line that was read.
+    fn turn(&mut self, shelf: &mut Shelf, made: bool) -> Result<Turn, AllocError> {
+        match parse(self.heap, self.line.as_slice()) {
+            Err(wrong) => self.complain(wrong)?,
+            Ok(Request::Nothing) => {}
+            Ok(Request::Bus(drives)) => return self.start(drives),
+            Ok(request) if made => carry_out(shelf, request, &mut self.out)?,
+            Ok(_) => self.complain(Wrong::NoBus)?,
+        }
+        Ok(Turn::On)
+    }
+
+    // Carries out lines up to one that starts anew.
+    fn serve(&mut self, memory: &mut Memory, made: bool) -> io::Result<Option<Memory>> {
+        let mut shelf = memory.shelf();
+        for _ in 0..u64::MAX {
+            if !self.read_line()? {
+                return Ok(None);
+            }
+            let turn = self.turn(&mut shelf, made)?;
+            self.print()?;
+            match turn {
+                Turn::On => {}
+                Turn::Anew(next) => return Ok(Some(next)),
+            }
+        }
+        Ok(None)
+    }
+}
+
+// Carries out the whole script.
+fn run<R: BufRead, W: Write>(console: &mut Console<R, W>) -> io::Result<()> {
+    // Before its first bus a script has no drive.
+    let none = Drives {
+        number: 0,
+        capacity: 1,
+        joined_number: 0,
+        joined_capacity: 1,
+    };
+    let heap = console.heap;
+    let mut memory = Memory {
+        drives: none,
+        first: Vec::new(heap),
+        second: Vec::new(heap),
+    };
+    for turn in 0..u64::MAX {
+        match console.serve(&mut memory, turn > 0)? {
+            Some(next) => memory = next,
+            None => break,
+        }
+    }
+    console.output.flush()
+}
+
+fn main(rt: LibcRuntime) -> Result<(), AnyError> {
+    let heap = rt.alloc();
+    let mut console = Console {
+        heap,
+        input: BufReader::new(rt.stdin()),
+        output: BufWriter::new(rt.stdout()),
+        line: Vec::new(heap),
+        number: 0,
+        out: Vec::new(heap),
+        malformed: false,
+    };
+    run(&mut console)?;
+    if console.malformed {
+        return Err("a line was malformed".into());
+    }
+    Ok(())
+}
