@@ -175,3 +175,50 @@ fn main(rt: LibcRuntime) -> Result<(), AnyError> {
     }
     Ok(())
 }
+
+#[cfg(test)]
+mod tests {
+    use super::*;
+    use std::test::*;
+
+    const SCRIPT: &[u8] = b"broken
+bus 1 2
+break 0 0
+nonsense
+peek 0 0
+raw 0 1 2
+poke 0 0 1048577*00
+poke 0 2 512*00 # beyond the capacity
+
+peek 0 1 511
+break 1";
+
+    const ANSWERS: &[u8] = b"error: 1: there is no bus yet
+ok
+error: 3: accesses are counted from 1
+error: 4: unknown word
+error: 5: a word is missing
+error: 6: a word too many
+error: 7: a buffer is at most 1048576 bytes
+refused 7
+refused 6
+refused 4
+";
+
+    #[test]
+    fn malformed_lines_are_passed_over(rt: LibcRuntime) -> Result<(), Fail> {
+        let heap = rt.alloc();
+        let mut console = Console {
+            heap,
+            input: SCRIPT,
+            output: Vec::new(heap),
+            line: Vec::new(heap),
+            number: 0,
+            out: Vec::new(heap),
+            malformed: false,
+        };
+        run(&mut console)?;
+        check(console.malformed)?;
+        check(console.output.as_slice() == ANSWERS)
+    }
+}
