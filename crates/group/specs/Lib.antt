@@ -1,0 +1,10 @@
+pub mod Group
+pub mod Steps
+pub mod Sweeps
+pub mod Requests
+pub mod Seen
+pub mod Elsewhere
+pub mod Faults
+pub mod Record
+pub mod Filling
+pub mod Making
