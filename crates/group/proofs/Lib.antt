@@ -5,3 +5,4 @@ pub mod Spreading
 pub mod Holding
 pub mod Deciding
 pub mod Recording
+pub mod Filled
