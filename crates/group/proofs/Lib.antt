@@ -6,3 +6,4 @@ pub mod Holding
 pub mod Deciding
 pub mod Recording
 pub mod Filled
+pub mod Moving

@@ -30,3 +30,9 @@ pub record Fits (es : List ExtentRow) (g : Geometry) : Type 0 where
 -- the first k members are those of the rows
 abbrev pub Made-to : List ExtentRow → List Member → ℕ → Type 0
 Made-to es ms k = (i : ℕ) → i < k → member ms i ≡ whole-member (extent es i)
+
+-- member i may move to blocks from `start` on of drive d: the rows end in time, and no other member is on that drive
+pub record Movable (n l : ℕ) (ms : List Member) (i d start : ℕ) : Type 0 where
+  pub inside : i < n
+  pub ends : start + l ≤ 65536
+  pub apart : (j : ℕ) → j < n → (j ≡ i → ⊥) → member ms j .drive ≡ d → ⊥

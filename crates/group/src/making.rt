@@ -1,15 +1,17 @@
 //! Making a group.
 ghost use mathlib.Core.Path.{_≡_};
 ghost use Prim.Native.Nat.{ℕ, _+_, _<_, _≤_};
-ghost use lib.ListN.{length};
+ghost use lib.ListN.{length, set};
 ghost use Rattle.std.specs.Options.{Cases};
 ghost use Rattle.std.specs.Orderings.{When};
 ghost use Rattle.group.specs.Filling.{extent};
-ghost use Rattle.group.specs.Making.{Fits, Made-to};
+ghost use Rattle.group.specs.Group.{member as memberOf};
+ghost use Rattle.group.specs.Making.{Fits, Made-to, Movable};
 use crate::member::Member;
 use crate::record::Group;
 use layout::extent::Extent;
 use layout::extent::ExtentRow;
+use layout::extent::MOST_BLOCKS;
 use layout::geometry::Geometry;
 
 // Whether one of the first `k` rows is on drive `d`.
@@ -62,5 +64,47 @@ impl Group {
             geometry,
             members,
         })
+    }
+}
+
+// Whether a member but `i` of the first `n` is on drive `d`.
+fn other_on(members: &[Member; 8], n: usize, i: usize, d: usize) -> bool
+    requires { ⌜ n ≤ 8 ⌝ }
+    ensures { λ b. ⌜ When b ((j : ℕ) × (j < n) × (j ≡ i → ⊥) × (memberOf (now (members .entry)) j .drive ≡ d)) ((j : ℕ) → j < n → (j ≡ i → ⊥) → memberOf (now (members .entry)) j .drive ≡ d → ⊥) ⌝ }
+{
+    for j in 0..n {
+        if j != i {
+            if members[j].drive == d {
+                return true;
+            }
+        }
+    }
+    false
+}
+
+impl Group {
+    /// Moves member `i` to the blocks from `start` on of `drive`, none of them rebuilt; false, and nothing changed, where
+    /// there is no such member, the rows would end beyond block 65,536, or another member is on that drive.
+    pub fn move_member(&mut self, i: usize, drive: usize, start: usize) -> bool
+        ensures { λ b. ⌜ When b (Movable (now (self .entry) .geometry .members) (now (self .entry) .geometry .rows) (now (self .entry) .members) i drive start × (now (self .exit) .members ≡ set (now (self .entry) .members) i (record { drive = drive; start = start; mark = 0 }))) ((Movable (now (self .entry) .geometry .members) (now (self .entry) .geometry .rows) (now (self .entry) .members) i drive start → ⊥) × (now (self .exit) .members ≡ now (self .entry) .members)) ⌝ }
+        ensures same { λ _. ⌜ (now (self .exit) .number ≡ now (self .entry) .number) × (now (self .exit) .geometry ≡ now (self .entry) .geometry) ⌝ }
+    {
+        let n = self.geometry.members();
+        let rows = self.geometry.rows();
+        if i >= n {
+            return false;
+        }
+        if start > MOST_BLOCKS - rows {
+            return false;
+        }
+        if other_on(&self.members, n, i, drive) {
+            return false;
+        }
+        self.members[i] = Member {
+            drive,
+            start,
+            mark: 0,
+        };
+        true
     }
 }
