@@ -1,0 +1,4 @@
+pub mod Peeking
+pub mod Texts
+pub mod Parsing
+pub mod Wording

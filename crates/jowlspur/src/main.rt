@@ -1,10 +1,19 @@
 // The console: reads a script, one call to a line, carries each out, and prints one answer for each.
+ghost use mathlib.Core.Path.{_≡_};
+ghost use mathlib.Core.Bool.{true};
+ghost use mathlib.Core.List.{[]};
+ghost use Rattle.std.specs.Of.Vec.{vec-items};
+ghost use Rattle.script.specs.Showing.{Grown};
+ghost use Rattle.jowlspur.specs.Printing.{complained};
+ghost use Rattle.jowlspur.specs.Starting.{Starts};
+
 mod answer;
 mod request;
 mod shelf;
 mod wrong;
 
 use crate::answer::carry_out;
+use crate::answer::complain_of;
 use crate::answer::number_refused;
 use crate::request::Drives;
 use crate::request::Request;
@@ -15,7 +24,6 @@ use crate::shelf::sizes;
 use crate::wrong::Wrong;
 use buses::JoinedBusBus;
 use buses::MemoryBusBus;
-use script::show_number;
 use std::alloc::AllocError;
 use std::alloc::Global;
 use std::error::AnyError;
@@ -75,17 +83,19 @@ impl<R: BufRead, W: Write> Console<R, W> {
         Ok(())
     }
 
-    fn complain(&mut self, wrong: Wrong) -> Result<(), AllocError> {
+    fn complain(&mut self, wrong: Wrong) -> Result<(), AllocError>
+        ensures malformed { λ _. ⌜ now (self .exit) .malformed ≡ true ⌝ }
+        ensures text { λ r. ⌜ Grown r (complained (now (self .entry) .number) wrong) [] (vec-items (now (self .exit) .out)) ⌝ }
+    {
         self.malformed = true;
         self.out.clear();
-        self.out.extend_from_slice(b"error: ")?;
-        show_number(self.number, &mut self.out)?;
-        self.out.extend_from_slice(b": ")?;
-        self.out.extend_from_slice(wrong.text())
+        complain_of(&mut self.out, self.number, wrong)
     }
 
     // New memory for a script's drives, where they fit a bus.
-    fn start(&mut self, drives: Drives) -> Result<Turn, AllocError> {
+    fn start(&mut self, drives: Drives) -> Result<Turn, AllocError>
+        ensures { λ r. ⌜ Starts drives (now (self .entry) .number) (now (self .exit) .malformed) (vec-items (now (self .entry) .out)) (vec-items (now (self .exit) .out)) r ⌝ }
+    {
         match sizes(drives) {
             Err(misfit) => {
                 number_refused(&mut self.out, misfit.number())?;

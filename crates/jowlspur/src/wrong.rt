@@ -1,4 +1,7 @@
 // What is wrong with a line that is not carried out.
+ghost use mathlib.Core.Path.{_≡_};
+ghost use Rattle.jowlspur.specs.Printing.{complaint};
+
 #[derive(Clone, Copy, PartialEq, Eq, Debug)]
 pub enum Wrong {
     Unknown,
@@ -13,7 +16,9 @@ pub enum Wrong {
 }
 
 impl Wrong {
-    pub fn text(self) -> &'static [u8] {
+    pub fn text(self) -> &'static [u8]
+        ensures { λ r. ⌜ now r ≡ complaint self ⌝ }
+    {
         match self {
             Wrong::Unknown => b"unknown word",
             Wrong::Missing => b"a word is missing",
