@@ -160,14 +160,15 @@ module _ (m s n : List Drive) (es : List ExtentRow) (i : ℕ) (inside : i < leng
         (cases-eq j i);
   }
 
-  pub member-stops : (U : Type 0) (number j q : ℕ) (f : BusFault) → FillsOne {U = U} s n (extent es i) i (Err (Failed f j q)) → Stopped m n es number number q j f
-  member-stops U number j q f x =
+  pub member-stops : (U : Type 0) (number j q : ℕ) (f : BusFault) → ((k : ℕ) → k < length es → Sound (extent es k)) → FillsOne {U = U} s n (extent es i) i (Err (Failed f j q)) → Stopped m n es number number q j f
+  member-stops U number j q f sound x =
       subst (λ (v : ℕ). Stopped m n es number number q v f) (sym (x .1))
-      (record { frame = one-of (x .0); group = refl; inside = inside; row = x .2; fault = x .3 })
+      (record { frame = one-of (x .0); group = refl; inside = inside; row = x .2; fault = x .3; sound = sound })
 
 pub members-filled : (m n : List Drive) (es : List ExtentRow) (i : ℕ) → length es ≤ i → ((j : ℕ) → j < length es → Sound (extent es j)) → FilledMembers m n es i → Filled m n es
 members-filled m n es i all sound fs = record {
   frame = fs .frame;
   zeros = λ j r h l. fs .zeroed j (omega arith) .blocks r l;
   works = λ j h. fs .zeroed j (omega arith) .works (sound j h .some);
+  sound = sound;
 }

@@ -61,14 +61,17 @@ pub record Stopped (m n : List Drive) (es : List ExtentRow) (number : ℕ) (x q 
   pub inside : i < length es
   pub row : q < extent es i .count
   pub fault : Stops n (extent es i) q f
+  pub sound : (j : ℕ) → j < length es → Sound (extent es j)
 
--- Every block of every extent is zeros, and every drive of them works; or it stopped at the first drive that is broken;
--- nothing else changed. Extents that none can be are refused before any drive is tried.
+-- every block of every extent is zeros, every drive of them works, and nothing else changed
 pub record Filled (m n : List Drive) (es : List ExtentRow) : Type 0 where
   pub frame : Frame m n (SomeDrive es) (SomeBlock es)
   pub zeros : (i r : ℕ) → i < length es → r < extent es i .count → block n (extent es i .drive) (extent es i .start + r) ≡ zeros
   pub works : (i : ℕ) → i < length es → at n (extent es i .drive) .broken ≡ false
+  pub sound : (i : ℕ) → i < length es → Sound (extent es i)
 
+-- Filled; or a row is no extent, and no drive was tried; or a drive did not take a row of its extent, which is named, and
+-- nothing changed but blocks of the extents and drives of them.
 abbrev pub Fills : {U : Type 0} → List Drive → List Drive → List ExtentRow → ℕ → Result U GroupFault → Type 0
 Fills m n es number (Ok u) = Filled m n es
 Fills m n es number (Err OutOfRule) = ⊥

@@ -6,7 +6,6 @@ ghost use lib.ListN.{length, set};
 ghost use Rattle.layout.specs.Blocks.{missing-count, Blocks};
 ghost use Rattle.group.specs.Group.{member as memberOf, Shape, RowHolds, Frame, Ours, InRow, NoBlock, ItsBlock};
 ghost use Rattle.group.specs.Requests.{Keeps, Settled, HomeFirst, Suffices, Gives, Decided, Changes, Rebuilds};
-ghost use Rattle.group.specs.Elsewhere.{Others-hold};
 use crate::fault::RowFault;
 use crate::member::Member;
 use crate::member::is_missing;
@@ -189,7 +188,7 @@ fn rebuild_in<B: Bus, M: Method>(
 }
 
 // Reads the user block `p` of the row `r`, of the strip `t`.
-pub fn read_block<B: Bus, M: Method>(
+pub(crate) fn read_block<B: Bus, M: Method>(
     bus: &mut B,
     members: &[Member],
     t: usize,
@@ -212,7 +211,7 @@ pub fn read_block<B: Bus, M: Method>(
 }
 
 // Writes the user block `p` of the row `r`, of the strip `t`.
-pub fn write_block<B: Bus, M: Method>(
+pub(crate) fn write_block<B: Bus, M: Method>(
     bus: &mut B,
     members: &[Member],
     t: usize,
@@ -243,7 +242,7 @@ pub fn write_block<B: Bus, M: Method>(
 }
 
 // Makes the block of the member `i` in the row `r`, of the strip `t`, again.
-pub fn rebuild_row<B: Bus, M: Method>(
+pub(crate) fn rebuild_row<B: Bus, M: Method>(
     bus: &mut B,
     members: &[Member],
     t: usize,
@@ -262,11 +261,4 @@ pub fn rebuild_row<B: Bus, M: Method>(
     let mut blocks = [[0; 512]; 8];
     let mut unread = [true; 8];
     rebuild_in::<B, M>(bus, members, t, r, i, &mut blocks[0..n], &mut unread[0..n])
-}
-
-// Of every method: a row of which no block may have changed holds what it held.
-pub fn others_hold<M: Method>() -> u8
-    ensures { λ _. ⌜ Others-hold M·Method ⌝ }
-{
-    0
 }

@@ -12,7 +12,7 @@ use bus::Bus;
 use layout::block::Block;
 
 // Reads the member's block of the row `r`; whether that was done.
-pub fn fetch<B: Bus>(bus: &mut B, g: Member, r: usize, block: &mut Block) -> bool
+pub(crate) fn fetch<B: Bus>(bus: &mut B, g: Member, r: usize, block: &mut Block) -> bool
     requires { ⌜ g .start + r < size (drives (now bus)) (g .drive) ⌝ }
     ensures { λ b. ⌜ Fetched (drives (now (bus .entry))) (drives (now (bus .exit))) r g (now (block .exit)) b ⌝ }
 {
@@ -26,7 +26,7 @@ pub fn fetch<B: Bus>(bus: &mut B, g: Member, r: usize, block: &mut Block) -> boo
 }
 
 // Writes the member's block of the row `r`, unless the member is missing.
-pub fn send<B: Bus>(bus: &mut B, g: Member, r: usize, bytes: &Block)
+pub(crate) fn send<B: Bus>(bus: &mut B, g: Member, r: usize, bytes: &Block)
     requires { ⌜ g .start + r < size (drives (now bus)) (g .drive) ⌝ }
     ensures { λ _. ⌜ Sent (drives (now (bus .entry))) (drives (now (bus .exit))) r g (now (bytes .entry)) ⌝ }
 {
@@ -36,7 +36,7 @@ pub fn send<B: Bus>(bus: &mut B, g: Member, r: usize, bytes: &Block)
 }
 
 // Writes the block of the row `r` of the member `i`, which is `g`, though it be missing.
-pub fn store<B: Bus>(
+pub(crate) fn store<B: Bus>(
     bus: &mut B,
     g: Member,
     i: usize,

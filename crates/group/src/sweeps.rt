@@ -16,7 +16,7 @@ use layout::block::count_missing;
 use layout::method::Method;
 
 // How many members are missing in the row `r`.
-pub fn count_missing_members<B: Bus>(bus: &B, members: &[Member], r: usize) -> usize
+pub(crate) fn count_missing_members<B: Bus>(bus: &B, members: &[Member], r: usize) -> usize
     ensures { λ c. ⌜ c ≡ missing-count (missings (drives (now (bus .entry))) r (now (members .entry))) ⌝ }
 {
     let mut c = 0;
@@ -29,7 +29,7 @@ pub fn count_missing_members<B: Bus>(bus: &B, members: &[Member], r: usize) -> u
 }
 
 // The first member that is missing in the row `r`, where one is.
-pub fn first_missing_member<B: Bus>(bus: &B, members: &[Member], r: usize) -> usize
+pub(crate) fn first_missing_member<B: Bus>(bus: &B, members: &[Member], r: usize) -> usize
     requires { ⌜ 0 < missing-count (missings (drives (now bus)) r (now members)) ⌝ }
     ensures inside { λ i. ⌜ i < length (now (members .entry)) ⌝ }
     ensures gone { λ i. ⌜ missing (drives (now (bus .entry))) r (memberOf (now (members .entry)) i) ≡ true ⌝ }
@@ -43,7 +43,7 @@ pub fn first_missing_member<B: Bus>(bus: &B, members: &[Member], r: usize) -> us
 }
 
 // Marks all members.
-pub fn mark_all(marks: &mut [bool])
+pub(crate) fn mark_all(marks: &mut [bool])
     ensures { λ _. ⌜ ((k : ℕ) → getD (now (marks .exit)) k true ≡ true) ⌝ }
 {
     for i in 0..marks.len() {
@@ -52,7 +52,7 @@ pub fn mark_all(marks: &mut [bool])
 }
 
 // Reads members that are not missing, until only `tolerance` are left unread.
-pub fn gather<B: Bus>(
+pub(crate) fn gather<B: Bus>(
     bus: &mut B,
     members: &[Member],
     r: usize,
@@ -85,7 +85,7 @@ fn concerns<M: Method>(n: usize, t: usize, home: usize, i: usize) -> bool
 }
 
 // Writes the blocks of the home and of the check members that are not missing.
-pub fn spread<B: Bus, M: Method>(
+pub(crate) fn spread<B: Bus, M: Method>(
     bus: &mut B,
     members: &[Member],
     t: usize,

@@ -4,6 +4,7 @@ ghost use Prim.Native.Nat.{ℕ, _+_, _<_, _≤_};
 ghost use Rattle.std.specs.Orderings.{When};
 ghost use mathlib.Core.List.{_++_};
 ghost use lib.ListN.{length, take, drop};
+ghost use Rattle.group.specs.Elsewhere.{Others-hold};
 ghost use Rattle.group.specs.Record.{members-of, Lies, Admits, Blamable, raised, Reads, Writes, Prepares, Rebuilds};
 use crate::fault::GroupFault;
 use crate::fault::RowFault;
@@ -172,3 +173,9 @@ fn put_front(buf: &mut [u8], block: &Block)
 {
     buf[0..512].copy_from_slice(block);
 }
+
+/// Of every method: a call at one row leaves what every other row holds, of its group and of any other, where the two
+/// share no block.
+pub fn other_rows_hold<M: Method>()
+    ensures { λ _. ⌜ Others-hold M·Method ⌝ }
+{}

@@ -11,7 +11,7 @@ loop-i-holds g c = no-members-filled (g .B·Bus .drives (c .args .bus .now)) (c 
 pub returns-in-Failed : need.returns-in-Failed
 returns-in-Failed g c =
     member-stops (g .B·Bus .drives (c .args .bus .now)) (g .B·Bus .drives (c .loop-i .bus)) (g .B·Bus .drives (c .fill-extent .last .bus)) (c .args .extents .now) (c .loop-i .i) (c .loop-i-test .taken) (c .loop-i .inv)
-    (Unit {0}) (c .args .number) (c .in-Failed .member) (c .in-Failed .row) (c .in-Failed .fault)
+    (Unit {0}) (c .args .number) (c .in-Failed .member) (c .in-Failed .row) (c .in-Failed .fault) (c .if-not-sound-rows .ensures tt)
     (subst (λ (x : RowFault). FillsOne {U = Unit {0}} (g .B·Bus .drives (c .loop-i .bus)) (g .B·Bus .drives (c .fill-extent .last .bus)) (extent (c .args .extents .now) (c .loop-i .i)) (c .loop-i .i) (Err x)) (c .in-Failed .is) (c .in-Err .ensures tt))
 
 pub loop-i-again : need.loop-i-again
