@@ -5,7 +5,8 @@ method.  The script prints where protected blocks lie for many groups, and
 asserts that each small accepted group lays its blocks out soundly.
 """
 
-REFUSED = 3  # the number a refused group answers with
+OUT_OF_RULE = 3  # the refusal of members, depth or rows that break a rule
+OUTSIDE = 7  # the refusal of more rows than an extent can have
 
 LEAST_MEMBERS = {"none": 1, "copy": 2, "xor": 3}  # in the order printed
 MOST_MEMBERS = 8
@@ -16,15 +17,17 @@ LISTED_IN_FULL = 400  # most protected blocks printed one by one
 CHECKED = 4000  # most protected blocks checked one by one
 
 
-def accepted(method, members, depth, rows):
-    """Say whether a group of this shape may exist."""
+def refusal(method, members, depth, rows):
+    """Return the number that a group of this shape is refused with, if any."""
     if not LEAST_MEMBERS[method] <= members <= MOST_MEMBERS:
-        return False
-    if not 1 <= depth <= MOST_DEPTH or not 1 <= rows <= MOST_ROWS:
-        return False
+        return OUT_OF_RULE
+    if not 1 <= depth <= MOST_DEPTH or rows < 1:
+        return OUT_OF_RULE
     # Strips are whole; under xor each member holds the check equally often.
     unit = depth * members if method == "xor" else depth
-    return rows % unit == 0
+    if rows % unit != 0:
+        return OUT_OF_RULE
+    return OUTSIDE if rows > MOST_ROWS else None
 
 
 def data_members(method, members):
@@ -78,8 +81,9 @@ def distinct(values):
 def describe(method, members, depth, rows):
     """Return the output line for one group."""
     shape = f"{method} {members} {depth} {rows}"
-    if not accepted(method, members, depth, rows):
-        return f"{shape} refused {REFUSED}"
+    refused = refusal(method, members, depth, rows)
+    if refused is not None:
+        return f"{shape} refused {refused}"
     count = protected_blocks(method, members, rows)
     words = [shape, str(count)]
     sampled = count > LISTED_IN_FULL
@@ -109,7 +113,7 @@ def shapes():
 def main():
     for shape in shapes():
         method, members, _, rows = shape
-        if accepted(*shape) and protected_blocks(method, members, rows) <= CHECKED:
+        if refusal(*shape) is None and protected_blocks(method, members, rows) <= CHECKED:
             check_group(*shape)
         print(describe(*shape))
 

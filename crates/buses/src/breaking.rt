@@ -1,6 +1,7 @@
 ghost use mathlib.Core.Path.{_≡_};
 ghost use mathlib.Core.Bool.{Bool};
-ghost use lib.ListN.{length};
+ghost use lib.ListN.{length, replicate};
+ghost use Rattle.std.specs.declared.option.Option.the-variants.{None};
 ghost use Rattle.std.specs.declared.result.Result.the-variants.{Ok};
 ghost use Rattle.bus.specs.Requests.{Reads, Writes};
 ghost use Rattle.buses.specs.Breaking.{gone, fewer, marked, sound-marked, Told, Breaks, Counts, FailsAsTold, Stops};
@@ -48,6 +49,7 @@ impl<B: Bus> BreakingBus<B> {
     pub fn new(below: B) -> BreakingBus<B>
         ensures below { λ r. ⌜ r .below ≡ below ⌝ }
         ensures drives { λ r. ⌜ marked (B·Bus .drives (r .below)) (r .left) ≡ B·Bus .drives below ⌝ }
+        ensures untold { λ r. ⌜ r .left ≡ replicate 16 None ⌝ }
     {
         BreakingBus {
             below,

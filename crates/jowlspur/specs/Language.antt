@@ -145,7 +145,7 @@ abbrev pub asked : List (List ℕ) → Result Call Wrong
 asked [] = Ok nothing
 asked (w ∷ ws) = asked-by w ws
 
--- what was read is a, with the words ws left
+-- what was read, with the words ws left
 abbrev pub leaving : {X : Type 0} → Result X Wrong → List (List ℕ) → Result (X × List (List ℕ)) Wrong
 leaving (Ok x) ws = Ok (x, ws)
 leaving (Err e) ws = Err e

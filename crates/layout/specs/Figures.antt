@@ -2,21 +2,20 @@
 use mathlib.Core.Path.{_≡_}
 use mathlib.Core.Bool.{Bool, true}
 use mathlib.Core.List.{List, [], _∷_, map}
-use Prim.Native.Nat.{ℕ, _-_, _*_}
+use Prim.Native.Nat.{ℕ, _-_, _*_, _≤_}
 use Rattle.std.specs.declared.result.Result.{Result}
 use Rattle.std.specs.declared.result.Result.the-variants.{Ok, Err}
 use Rattle.layout.specs.declared.geometry.Geometry.{Geometry}
 use Rattle.layout.specs.declared.refusal.Refusal.{Refusal}
-use Rattle.layout.specs.declared.refusal.Refusal.the-variants.{OutOfRule}
 use Rattle.layout.specs.contracts.unprotected.UnprotectedMethod.the-impl as none
 use Rattle.layout.specs.contracts.mirror.MirrorMethod.the-impl as copy
 use Rattle.layout.specs.contracts.parity.ParityMethod.the-impl as xor
-use Rattle.layout.specs.Refusals.{number-of, Answered}
+use Rattle.layout.specs.Refusals.{number-of, Answered-both}
 use Rattle.layout.specs.Places.{Fits, protected, home-of, row-of}
 
 -- what the creation check may answer for XOR with three members at depth 2 and l rows
 abbrev pub Answers : ℕ → Result Geometry Refusal → Type 0
-Answers l = Answered (Fits xor.ghosts 3 2 l) (λ g. (g .members ≡ 3) × (g .depth ≡ 2) × (g .rows ≡ l)) OutOfRule
+Answers l = Answered-both (Fits xor.ghosts 3 2 l) (l ≤ 65536) (λ g. (g .members ≡ 3) × (g .depth ≡ 2) × (g .rows ≡ l))
 
 abbrev pub Accepted : Result Geometry Refusal → Type 0
 Accepted (Ok g) = Unit {0}

@@ -17,7 +17,6 @@ pub record Fits {X : Type 0} (m : Ghosts X) (n k l : ℕ) : Type 0 where
   pub least-depth : 1 ≤ k
   pub most-depth : k ≤ 64
   pub least-rows : 1 ≤ l
-  pub most-rows : l ≤ 65536
   pub multiple : l % (k * m .cycle n) ≡ 0
 
 -- the strip of block q at depth k, with d user blocks to a row; which user block of its row it is; its row

@@ -15,3 +15,9 @@ number-of Outside = 7
 abbrev pub Answered : {V : Type 0} → Type 0 → (V → Type 0) → Refusal → Result V Refusal → Type 0
 Answered P Q x (Ok v) = P × Q v
 Answered P Q x (Err e) = (P → ⊥) × (e ≡ x)
+
+-- two checks in turn: accepted exactly where P and Q, with a value of which R; else refused by the first that does not hold
+abbrev pub Answered-both : {V : Type 0} → Type 0 → Type 0 → (V → Type 0) → Result V Refusal → Type 0
+Answered-both P Q R (Ok v) = P × Q × R v
+Answered-both P Q R (Err OutOfRule) = P → ⊥
+Answered-both P Q R (Err Outside) = P × (Q → ⊥)

@@ -4,7 +4,7 @@ ghost use mathlib.Core.Bool.{true};
 ghost use Prim.Native.Nat.{ℕ, _+_, _*_, _/_, _%_, _<_, _≤_};
 ghost use Rattle.std.specs.Options.{Cases};
 ghost use Rattle.layout.specs.declared.refusal.Refusal.the-variants.{OutOfRule, Outside};
-ghost use Rattle.layout.specs.Refusals.{Answered};
+ghost use Rattle.layout.specs.Refusals.{Answered, Answered-both};
 ghost use Rattle.layout.specs.Places.{Fits, PlaceOf, OnePlaceEach, HeldAt, protected};
 use crate::method::Method;
 use crate::refusal::Refusal;
@@ -56,10 +56,10 @@ pub struct Geometry {
 }
 
 impl Geometry {
-    /// The geometry of a group by the method `M`: `members` from the method's least to 8, `depth` from 1 to 64, and
-    /// `rows` from 1 to 65,536, a multiple of the depth times the strips of a cycle.
-    pub fn new<M: Method>(members: usize, depth: usize, rows: usize) -> Result<Geometry, Refusal>
-        ensures { λ r. ⌜ Answered (Fits M·Method members depth rows) (λ g. (g .members ≡ members) × (g .depth ≡ depth) × (g .rows ≡ rows)) OutOfRule r ⌝ }
+    /// Whether a group by the method `M` may have these numbers: `members` from the method's least to 8, `depth` from 1 to
+    /// 64, and at least one row, in a multiple of the depth times the strips of a cycle.
+    pub fn check<M: Method>(members: usize, depth: usize, rows: usize) -> Result<(), Refusal>
+        ensures { λ r. ⌜ Answered (Fits M·Method members depth rows) (λ _. Unit {0}) OutOfRule r ⌝ }
     {
         if members < M::least_members() || members > MOST_MEMBERS {
             return Err(Refusal::OutOfRule);
@@ -67,12 +67,24 @@ impl Geometry {
         if depth == 0 || depth > MOST_DEPTH {
             return Err(Refusal::OutOfRule);
         }
-        if rows == 0 || rows > MOST_ROWS {
+        if rows == 0 {
             return Err(Refusal::OutOfRule);
         }
         let unit = depth * M::cycle_of(members);
         if rows % unit != 0 {
             return Err(Refusal::OutOfRule);
+        }
+        Ok(())
+    }
+
+    /// The geometry of a group by the method `M`. Rows that pass the check, but are more than an extent can have, are
+    /// outside.
+    pub fn new<M: Method>(members: usize, depth: usize, rows: usize) -> Result<Geometry, Refusal>
+        ensures { λ r. ⌜ Answered-both (Fits M·Method members depth rows) (rows ≤ 65536) (λ g. (g .members ≡ members) × (g .depth ≡ depth) × (g .rows ≡ rows)) r ⌝ }
+    {
+        Geometry::check::<M>(members, depth, rows)?;
+        if rows > MOST_ROWS {
+            return Err(Refusal::Outside);
         }
         Ok(Geometry {
             members,

@@ -7,6 +7,7 @@ use Rattle.std.specs.declared.result.Result.{Result}
 use Rattle.std.specs.declared.result.Result.the-variants.{Ok, Err}
 use Rattle.layout.specs.declared.geometry.Geometry.{Geometry}
 use Rattle.layout.specs.declared.refusal.Refusal.{Refusal}
+use Rattle.layout.specs.declared.refusal.Refusal.the-variants.{OutOfRule, Outside}
 use Rattle.layout.specs.contracts.parity.ParityMethod.the-impl as xor
 use Rattle.layout.specs.Refusals.{number-of}
 use Rattle.layout.specs.Places.{Fits}
@@ -14,18 +15,20 @@ use Rattle.layout.specs.Figures.{Answers, Accepted, RefusedBy, ExampleGroup, P
 use Rattle.layout.proofs.figures.figures_stand.Needs as need
 
 fits-six : Fits xor.ghosts 3 2 6
-fits-six = record { least-members = lit≤ tt; most-members = lit≤ tt; least-depth = lit≤ tt; most-depth = lit≤ tt; least-rows = lit≤ tt; most-rows = lit≤ tt; multiple = refl }
+fits-six = record { least-members = lit≤ tt; most-members = lit≤ tt; least-depth = lit≤ tt; most-depth = lit≤ tt; least-rows = lit≤ tt; multiple = refl }
 
 fits-ten : Fits xor.ghosts 3 2 10 → ⊥
 fits-ten f = omega (arith, f .multiple)
 
 six : (r : Result Geometry Refusal) → Answers 6 r → Accepted r
 six (Ok g) a = tt
-six (Err e) a = a .0 fits-six
+six (Err OutOfRule) a = a fits-six
+six (Err Outside) a = a .1 (lit≤ tt)
 
 ten : (r : Result Geometry Refusal) → Answers 10 r → RefusedBy 3 r
 ten (Ok g) a = fits-ten (a .0)
-ten (Err e) a = ap number-of (a .1)
+ten (Err OutOfRule) a = refl
+ten (Err Outside) a = absurd (fits-ten (a .0))
 
 example : ExampleGroup
 example = record { homes = refl; rows = refl; blocks = refl; six = six; ten = ten }
