@@ -72,7 +72,7 @@ module _ {X : Type 0} (k : Ghosts X) (t r : ℕ) (gs : List Member) where
     home : ℕ → ℕ
     home q = k .home (length gs) t q
 
-    -- the new block's home was written, in a row that is missing-count
+    -- the new block's home was written, in a row that is lost
     pub holds-sent : (m n : List Drive) (i : ℕ) → i ≡ k .home (length gs) t p → Shape m r gs → RowHolds k t m r gs us → RowLost (k .tolerance (length gs)) m r gs → Sent m n r (member gs i) new →
         RowHolds k t n r gs (set us p new)
     holds-sent m n i is shape h gone f = record {
@@ -125,7 +125,7 @@ module _ {X : Type 0} (k : Ghosts X) (t r : ℕ) (gs : List Member) where
               (cases-bool (k .check (length gs) t j));
         }
 
-    -- where the block is missing-count, its row holds whatever it held
+    -- where the block is lost, its row holds whatever it held
     pub holds-lost : (n : List Drive) → BlockLost (k .tolerance (length gs)) n r gs (k .home (length gs) t p) → RowHolds k t n r gs (set us p new) → RowHolds k t n r gs us
     holds-lost n gone h = record {
       user = λ q l e.

@@ -64,7 +64,7 @@ fn read_in<B: Bus, M: Method>(
     Ok(read_user::<M>(t, blocks, unread, p))
 }
 
-// Refuses where the row is missing-count and the member `i` is missing.
+// Refuses where the row is lost and the member `i` is missing.
 fn settle<B: Bus>(
     bus: &B,
     members: &[Member],

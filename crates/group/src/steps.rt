@@ -35,7 +35,7 @@ pub(crate) fn send<B: Bus>(bus: &mut B, g: Member, r: usize, bytes: &Block)
     }
 }
 
-// Writes the block of the row `r` of the member `i`, which is `g`, though it be missing.
+// Writes the block of the row `r` of the member `i`, which is `g`, even if it is missing.
 pub(crate) fn store<B: Bus>(
     bus: &mut B,
     g: Member,
