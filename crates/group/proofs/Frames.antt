@@ -15,6 +15,7 @@ use Rattle.bus.specs.declared.fault.BusFault.{BusFault}
 use Rattle.bus.specs.declared.fault.BusFault.the-variants.{NoDrive, Length, Range, Broken}
 use Rattle.bus.specs.Drives.{Drive, at, size, block, stored, broke, absent}
 use Rattle.bus.specs.Requests.{Placed, Faults, Reads, Writes}
+use Rattle.bus.proofs.Changing.{there-by-size}
 use Rattle.layout.specs.Blocks.{missing-count}
 use Rattle.layout.specs.Methods.{Sound}
 use Rattle.layout.specs.declared.method.Method.{Ghosts}
@@ -23,9 +24,6 @@ use Rattle.group.specs.Group.{member, missing, missings, held, RowLost, Frame,
 use Rattle.group.specs.declared.fault.RowFault.the-variants.{Lost, Failed}
 use Rattle.group.specs.Seen.{seen}
 use Rattle.group.specs.Steps.{Fetched, Sent, Stores}
-
-pub exists-of-size : (m : List Drive) (d b : ℕ) → b < size m d → d < length m
-exists-of-size m d b h = ⊎-elim (λ k. k) (λ k. absurd (omega (arith, ap (λ (v : Drive). length (v .blocks)) (getD-past m d absent k)))) (cases-lt d (length m))
 
 -- one drive replaced, seen from each drive
 each-set : (m : List Drive) (d : ℕ) (v : Drive) (P : Drive → Drive → Type 0) → d < length m → P v (at m d) → ((w : Drive) → P w w) → (e : ℕ) → P (at (set m d v) e) (at m e)
@@ -113,7 +111,7 @@ module _ (m n : List Drive) (r : ℕ) (g : Member) where
   missing-back f e = ⊎-elim (λ t. absurd (both-ways (missing n r g) e (missing-stays f t))) (λ k. k) (cases-bool (missing m r g))
 
   pub placed-by : g .start + r < size m (g .drive) → (len : ℕ) → len ≡ 512 → Placed m (g .drive) (g .start + r) len
-  placed-by h len w = record { exists = exists-of-size m (g .drive) (g .start + r) h; whole = w; within = h }
+  placed-by h len w = record { exists = there-by-size m (g .drive) (g .start + r) h; whole = w; within = h }
 
   pub fetch-failed : (buf : List ℕ) (b len : ℕ) (e : BusFault) → Placed m (g .drive) b len → Faults m n (g .drive) b len e → Fetched m n r g buf false
   fetch-failed buf b len e p q =

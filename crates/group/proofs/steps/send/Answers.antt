@@ -1,13 +1,14 @@
 use native.Mathlib.Omega.{arith}
 use lib.ListN.{length}
-use Rattle.group.proofs.Frames.{exists-of-size, sent-by}
+use Rattle.bus.proofs.Changing.{there-by-size}
+use Rattle.group.proofs.Frames.{sent-by}
 use Rattle.group.proofs.steps.send.Needs as need
 
 pub add-g : need.add-g
 add-g g c =
     let m = g .B·Bus .drives (c .args .bus .now) in
     let d = c .args .g .drive in
-    omega (arith, c .pre, g .B·Bus .sound (c .args .bus .now) .small d (exists-of-size m d _ (c .pre)))
+    omega (arith, c .pre, g .B·Bus .sound (c .args .bus .now) .small d (there-by-size m d _ (c .pre)))
 
 pub returns-then-not-is-missing : need.returns-then-not-is-missing
 returns-then-not-is-missing g c =

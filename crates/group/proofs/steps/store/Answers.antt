@@ -4,14 +4,15 @@ use Rattle.group.specs.declared.fault.RowFault.{RowFault}
 use Rattle.group.specs.Steps.{Stores}
 use native.Mathlib.Omega.{arith}
 use lib.ListN.{length}
-use Rattle.group.proofs.Frames.{exists-of-size, stores-by}
+use Rattle.bus.proofs.Changing.{there-by-size}
+use Rattle.group.proofs.Frames.{stores-by}
 use Rattle.group.proofs.steps.store.Needs as need
 
 pub add-g : need.add-g
 add-g g c =
     let m = g .B·Bus .drives (c .args .bus .now) in
     let d = c .args .g .drive in
-    omega (arith, c .pre, g .B·Bus .sound (c .args .bus .now) .small d (exists-of-size m d _ (c .pre)))
+    omega (arith, c .pre, g .B·Bus .sound (c .args .bus .now) .small d (there-by-size m d _ (c .pre)))
 
 pub returns : need.returns
 returns g c =
