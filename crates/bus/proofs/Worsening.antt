@@ -1,10 +1,10 @@
 -- What may happen between requests, and what a request leaves alone.
-use Rattle.std.proofs.Common.{◌≡◌, ℕ, ◌<◌, true, ◌≢◌, List, [], length, get_or, set, Ok, Err, Result, sym, refl, ap, ◌∙◌, subst, ⊎_elim, arith}
+use Rattle.std.proofs.Common.{◌≡◌, ℕ, ◌<◌, List, [], length, get_or, Ok, Err, Result, sym, refl, ap, ◌∙◌, subst, ⊎_elim, arith}
 use Rattle.std.proofs.lemmas.List.{get_or-set_same, get_or-set_other, length-set}
 use Rattle.std.proofs.lemmas.Bool.{cases_eq}
 use Rattle.bus.specs.declared.fault.BusFault.{BusFault}
 use Rattle.bus.specs.declared.fault.BusFault.TheVariants.{NoDrive, Length, Range, Broken}
-use Rattle.bus.specs.Drives.{Drive, Sound, Worse, at, size, block, stored, broke}
+use Rattle.bus.specs.Drives.{Drive, Worse, at, size, block, stored, broke}
 use Rattle.bus.specs.Requests.{Reads, Writes, Faults}
 use Rattle.bus.specs.Laws.{Elsewhere, WorseRefl, WorseTrans, WorseSound, WriteThenRead}
 use Rattle.bus.proofs.Changing.{at_set, at_other}

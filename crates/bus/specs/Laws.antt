@@ -1,8 +1,8 @@
 -- What holds above every bus, whichever it is.
-use Rattle.std.specs.Prelude.{◌≡◌, ℕ, true, List, [], length, Ok, Err, Result, ◌≢◌}
+use Rattle.std.specs.Prelude.{◌≡◌, ℕ, true, List, length, Ok, Err, Result, ◌≢◌}
 use Rattle.bus.specs.declared.fault.BusFault.{BusFault}
 use Rattle.bus.specs.Drives.{Drive, Sound, Worse, at, block}
-use Rattle.bus.specs.Requests.{Reads, Writes, Faults}
+use Rattle.bus.specs.Requests.{Reads, Writes}
 
 -- nothing need happen between two requests
 abbrev pub WorseRefl : Type 0

@@ -1,4 +1,6 @@
 // The bus of drives: what one is, what a request to it answers, and what may happen to it between requests.
+#![tactic(auto)]
+
 pub mod fault;
 pub mod interface;
 pub mod laws;

@@ -1,11 +1,11 @@
 -- A request to a bus that is a part of a larger one.
-use Rattle.std.proofs.Common.{◌≡◌, ℕ, ◌+◌, ◌-◌, ◌<◌, ◌≤◌, true, false, ◌⊎◌, List, [], ◌++◌, length, get_or, set, Ok, Err, Result, sym, refl, ap, ◌∙◌, subst, inl, inr, ⊎_elim, arith}
+use Rattle.std.proofs.Common.{◌≡◌, ℕ, ◌+◌, ◌-◌, ◌<◌, ◌≤◌, true, false, List, [], ◌++◌, length, get_or, set, Ok, Err, Result, sym, refl, ap, ◌∙◌, subst, inl, inr, ⊎_elim, arith}
 use Rattle.std.proofs.lemmas.List.{length-set, set-append_left, set-append_right}
 use Rattle.std.proofs.lemmas.Bool.{cases_lt, true≢false}
 use Rattle.bus.specs.declared.fault.BusFault.{BusFault}
 use Rattle.bus.specs.declared.fault.BusFault.TheVariants.{NoDrive, Length, Range, Broken}
 use Rattle.bus.specs.Numbers.{renumbered}
-use Rattle.bus.specs.Drives.{Drive, Fails, at, size, block, stored, broke, absent}
+use Rattle.bus.specs.Drives.{Drive, at, size}
 use Rattle.bus.specs.Requests.{Placed, Faults, Reads, Writes}
 use Rattle.buses.specs.Joined.{joined, renamed, FailsBelow, joined_all, count_all, count_none, at_first, at_second, at_neither}
 

@@ -1,11 +1,10 @@
 -- A request to drives in a row of bytes.
-use Rattle.std.proofs.Common.{◌≡◌, ℕ, ◌+◌, ◌*◌, ◌<◌, ◌≤◌, List, ◌++◌, length, take, drop, Some, Ok, Err, Result, sym, refl, ap, ◌∙◌, arith}
+use Rattle.std.proofs.Common.{◌≡◌, ℕ, ◌+◌, ◌*◌, ◌<◌, ◌≤◌, List, ◌++◌, length, take, drop, Some, Err, sym, refl, ap, ◌∙◌, arith}
 use borrow.Rule.Slice.PartMut.{put_mid}
 use Rattle.std.proofs.lemmas.List.{length-append, length-take, length-drop, drop-drop}
 use Rattle.bus.specs.declared.fault.BusFault.{BusFault}
 use Rattle.bus.specs.declared.fault.BusFault.TheVariants.{NoDrive, Length, Range, Broken}
-use Rattle.bus.specs.Drives.{stored}
-use Rattle.bus.specs.Requests.{Placed, Faults, ReadBy, WroteBy}
+use Rattle.bus.specs.Requests.{ReadBy, WroteBy}
 use Rattle.buses.specs.Image.{image}
 use Rattle.buses.specs.Images.{room, count_is, size_is, working_is, block_is}
 use Rattle.buses.specs.Fitting.{Fit, fitting, fit_from_drive}

@@ -1,13 +1,13 @@
 -- Requests to a bus whose drives break when told to, from those to the bus below.
-use Rattle.std.proofs.Common.{◌≡◌, ℕ, ◌-◌, ◌<◌, ◌≤◌, Bool, true, false, ◌||◌, eqb, ◌≢◌, ◌⊎◌, List, [], length, get_or, set, replicate, Some, None, Ok, Err, Option, Result, sym, refl, ap, ◌∙◌, subst, inl, inr, ⊎_elim, arith}
+use Rattle.std.proofs.Common.{◌≡◌, ℕ, ◌-◌, ◌<◌, ◌≤◌, Bool, true, false, ◌||◌, ◌≢◌, List, length, set, replicate, Some, None, Ok, Err, Option, Result, sym, refl, ap, ◌∙◌, subst, inl, inr, ⊎_elim, arith}
 use Rattle.std.proofs.lemmas.List.{get_or-set_same, get_or-set_other, length-set, ext_get_or, set-get_or, get_or_past, get_or-replicate}
 use Rattle.std.proofs.lemmas.Bool.{cases_eq, cases_lt, or_right, or_from, or_cases, or_parts, both_ways, eqb-true, eqb-false, eq-eqb, ne_eqb, cond-true, cond-false}
 use Rattle.bus.specs.declared.fault.BusFault.{BusFault}
 use Rattle.bus.specs.declared.fault.BusFault.TheVariants.{NoDrive, Length, Range, Broken}
-use Rattle.bus.specs.Drives.{Drive, Fails, at, size, block, stored, broke, absent}
+use Rattle.bus.specs.Drives.{Drive, at, stored, broke, absent}
 use Rattle.bus.specs.Requests.{Placed, Faults, Reads, Writes}
-use Rattle.bus.proofs.Changing.{at_set, at_other, set_by, broke_same, there_by_size}
-use Rattle.buses.specs.Breaking.{gone, left_of, fewer, retold, mark, marked, ToldBy, Told, Breaks, Counts, FailsAsTold, Reached, Stops, count_marked, at_marked, size_marked, block_marked, broken_marked}
+use Rattle.bus.proofs.Changing.{at_set, at_other, set_by, broke_same}
+use Rattle.buses.specs.Breaking.{gone, left_of, fewer, mark, marked, ToldBy, Told, Breaks, Counts, FailsAsTold, Reached, Stops, count_marked, at_marked, size_marked, block_marked, broken_marked}
 
 -- only which drives have nothing left matters
 pub marked_as : (s : List Drive) (ls ms : List (Option ℕ)) → ((k : ℕ) → gone (left_of ms k) ≡ gone (left_of ls k)) → marked s ms ≡ marked s ls

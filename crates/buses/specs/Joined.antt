@@ -1,11 +1,11 @@
 -- Two buses as one: the drives of the second are numbered after those of the first.
 use Rattle.std.specs.Prelude.{◌≡◌, ℕ, ◌+◌, ◌-◌, ◌<◌, ◌≤◌, cond, ◌⊎◌, List, [], ◌++◌, length, Ok, Err, Result, nat_le, slice_index_or, refl}
-use Rattle.std.proofs.Common.{sym, ap, ◌∙◌, inl, inr, ⊎_elim, arith}
-use Rattle.std.proofs.lemmas.List.{get_or_past, get_or_append_left, get_or-append_right, length-append}
+use Rattle.std.proofs.Common.{ap, ◌∙◌, ⊎_elim, arith}
+use Rattle.std.proofs.lemmas.List.{get_or_append_left, get_or-append_right, length-append}
 use Rattle.std.proofs.lemmas.Bool.{cases_lt, le-leb, lt-leb, cond-true, cond-false}
 use Rattle.bus.specs.declared.fault.BusFault.{BusFault}
 use Rattle.bus.specs.Numbers.{renumbered}
-use Rattle.bus.specs.Drives.{Drive, Sound, Fails, at, size, block, absent}
+use Rattle.bus.specs.Drives.{Drive, Sound, Fails, at, absent}
 use Rattle.buses.specs.declared.misfit.Misfit.{Misfit}
 use Rattle.buses.specs.declared.misfit.Misfit.TheVariants.{Count, Capacity, Bytes}
 use Rattle.buses.specs.declared.joined.Side.{Side}

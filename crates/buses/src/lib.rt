@@ -1,4 +1,6 @@
 // Three buses: drives in lent memory, two buses joined, and a bus whose drives break when told to.
+#![tactic(auto)]
+
 pub mod breaking;
 pub mod joined;
 pub mod memory;

@@ -1,8 +1,8 @@
 -- Two extents of one drive, of which the first does not end before the second. Assumes nothing.
-use Rattle.std.proofs.Common.{◌≡◌, ℕ, ◌+◌, ◌<◌, ◌≤◌, max, Bool, true, false, ltb, MatchBool, refl, ⊎_elim, arith}
+use Rattle.std.proofs.Common.{◌≡◌, ℕ, ◌+◌, ◌<◌, ◌≤◌, Bool, true, false, ltb, MatchBool, refl, ⊎_elim, arith}
 use Rattle.std.proofs.lemmas.Bool.{ltb-true, ltb-false, cases_lt}
 use Rattle.layout.specs.declared.extent.ExtentRow.{ExtentRow}
-use Rattle.layout.specs.Extents.{Covers, Overlap}
+use Rattle.layout.specs.Extents.{Overlap}
 
 -- the later start lies in both
 share : (e f : ExtentRow) → e.drive ≡ f.drive → 1 ≤ e.count → 1 ≤ f.count → f.start < e.start + e.count → e.start < f.start + f.count → Overlap e f

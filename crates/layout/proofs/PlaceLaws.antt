@@ -1,7 +1,7 @@
 -- Every method's places, from what it owes of each row. Assumes nothing.
-use Rattle.std.proofs.Common.{◌≡◌, ℕ, ◌+◌, ◌*◌, ◌/◌, ◌%◌, ◌<◌, ◌≤◌, Bool, true, false, sym, refl, ap, ◌∙◌, subst, arith}
+use Rattle.std.proofs.Common.{◌≡◌, ℕ, ◌+◌, ◌*◌, ◌/◌, ◌%◌, ◌<◌, ◌≤◌, false, sym, refl, ap, ◌∙◌, subst, arith}
 use Rattle.layout.specs.declared.method.Method.{Ghosts}
-use Rattle.layout.specs.declared.geometry.Held.TheVariants.{User, Check}
+use Rattle.layout.specs.declared.geometry.Held.TheVariants.{User}
 use Rattle.layout.specs.Methods.{Sound, capped}
 use Rattle.layout.specs.Places.{strip, slot, line, protected, home_of, row_of, check_at, PlaceOf, HeldAt, OnePlaceEach}
 use Rattle.layout.proofs.Strips.{some_width, line_strip, line_below, slot_below, same_place, strip_at, slot_at, line_at, at_below}

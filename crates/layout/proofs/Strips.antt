@@ -1,5 +1,5 @@
 -- Strip, slot and row of a block, at depth k with d user blocks to a row. Assumes nothing.
-use Rattle.std.proofs.Common.{◌≡◌, ℕ, zero, suc, ◌+◌, ◌-◌, ◌*◌, ◌/◌, ◌%◌, ◌<◌, ◌≤◌, sym, refl, ap, ◌∙◌, subst, not-suc-le-zero, mul-le-mul_right, mod-lt, mul_assoc, mul_comm, mul-le-mul_left, div-add-mod', zero-mul, arith}
+use Rattle.std.proofs.Common.{◌≡◌, ℕ, zero, suc, ◌+◌, ◌*◌, ◌/◌, ◌%◌, ◌<◌, sym, ap, ◌∙◌, subst, not-suc-le-zero, mod-lt, mul_assoc, mul_comm, div-add-mod', zero-mul, arith}
 use native.Mathlib.Nat.{mod-mod_of_dvd, dvd-mul_right, zero-mod}
 use lib.Arith.{digits_div, digits_mod, digits_lt}
 use Rattle.std.proofs.lemmas.Nat.{div_below, mul-lt, mul-add-lt, div-mul-add, mod-mul-add}

@@ -1,5 +1,5 @@
 -- Blocks as lists of bytes, the bytewise exclusive or, rows of blocks, and which members are missing. Assumes nothing.
-use Rattle.std.specs.Prelude.{◌≡◌, ℕ, zero, suc, ◌+◌, ◌<◌, ◌≤◌, Bool, true, false, List, [], ◌∷◌, length, take, replicate, bit_xor, slice_index, slice_index_or}
+use Rattle.std.specs.Prelude.{◌≡◌, ℕ, zero, suc, ◌<◌, ◌≤◌, Bool, true, false, List, [], ◌∷◌, length, take, replicate, bit_xor, slice_index, slice_index_or}
 
 -- the bytewise exclusive or; the shorter list counts as if zeros followed it
 abbrev pub xor : List ℕ → List ℕ → List ℕ

@@ -1,9 +1,9 @@
 -- A row of copies. Assumes nothing.
-use Rattle.std.specs.Prelude.{◌≡◌, ℕ, ◌-◌, ◌<◌, ◌≤◌, Bool, true, false, List, [], length, get_or, replicate, slice_index_or, refl}
+use Rattle.std.specs.Prelude.{◌≡◌, ℕ, ◌-◌, ◌≤◌, Bool, List, [], length, get_or, replicate, slice_index_or, refl}
 use Rattle.std.proofs.Common.{sym, ap, subst, ◌∙◌, arith, lit≤}
 use Rattle.std.proofs.lemmas.List.{get_or-replicate, length-replicate}
 use Rattle.std.proofs.lemmas.Bool.{ltb-false}
-use Rattle.layout.specs.Blocks.{missing_count, first_present, Whole, Blocks, Agree}
+use Rattle.layout.specs.Blocks.{missing_count, first_present, Whole, Agree}
 use Rattle.layout.specs.Methods.{Sound, copy_width, one_strip, copy_home, copy_check, copy_row, copy_tolerance}
 use Rattle.layout.specs.Marks.{some_present, but_first}
 

@@ -1,5 +1,5 @@
 -- What a method of redundancy owes, and the three methods none, copy and XOR. Assumes nothing.
-use Rattle.std.specs.Prelude.{◌≡◌, ℕ, ◌+◌, ◌-◌, ◌*◌, ◌%◌, ◌<◌, ◌≤◌, min, Bool, true, false, cond, List, [], ◌∷◌, length, replicate, ◌==◌, nat_lt, slice_index_or, slice_set}
+use Rattle.std.specs.Prelude.{◌≡◌, ℕ, ◌+◌, ◌-◌, ◌%◌, ◌<◌, ◌≤◌, min, Bool, true, false, cond, List, [], length, replicate, ◌==◌, nat_lt, slice_index_or, slice_set}
 use Rattle.layout.specs.Blocks.{xor_all, put_in, missing_count, Whole, Blocks, Agree}
 
 -- A group has n members. A row is a block of each member, and k rows in turn, k being the depth, are a strip.

@@ -1,9 +1,9 @@
 -- A row with no check block. Assumes nothing.
-use Rattle.std.specs.Prelude.{◌≡◌, ℕ, ◌<◌, ◌≤◌, Bool, true, false, List, [], length, slice_index_or, refl}
-use Rattle.std.proofs.Common.{sym, ap, ◌∙◌, arith, lit≤}
+use Rattle.std.specs.Prelude.{◌≡◌, ℕ, ◌≤◌, Bool, true, List, [], length, slice_index_or, refl}
+use Rattle.std.proofs.Common.{arith, lit≤}
 use Rattle.std.proofs.lemmas.List.{ext_get_or}
 use Rattle.std.proofs.lemmas.Bool.{both_ways}
-use Rattle.layout.specs.Blocks.{missing_count, Blocks, Agree}
+use Rattle.layout.specs.Blocks.{missing_count, Agree}
 use Rattle.layout.specs.Methods.{Sound, none_width, one_strip, none_home, none_check, none_row, none_tolerance}
 use Rattle.layout.specs.Marks.{none_missing, none_marked}
 

@@ -1,5 +1,5 @@
 -- The geometry of a group, and the place of its blocks: n members, depth k, l rows. Assumes nothing.
-use Rattle.std.specs.Prelude.{◌≡◌, ℕ, ◌+◌, ◌*◌, ◌/◌, ◌%◌, ◌<◌, ◌≤◌, Bool, true, false, Ok, Err, Result}
+use Rattle.std.specs.Prelude.{◌≡◌, ℕ, ◌+◌, ◌*◌, ◌/◌, ◌%◌, ◌<◌, ◌≤◌, Bool, true, false}
 use Rattle.layout.specs.declared.method.Method.{Ghosts}
 use Rattle.layout.specs.declared.geometry.Place.{Place}
 use Rattle.layout.specs.declared.geometry.Held.{Held}

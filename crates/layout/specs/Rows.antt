@@ -1,7 +1,7 @@
 -- The work on a row in memory, by any method. Assumes nothing.
-use Rattle.std.specs.Prelude.{◌≡◌, ℕ, ◌<◌, ◌≤◌, Bool, true, false, List, [], length, slice_set}
+use Rattle.std.specs.Prelude.{◌≡◌, ℕ, ◌<◌, ◌≤◌, Bool, true, false, List, length, slice_set}
 use Rattle.layout.specs.declared.method.Method.{Ghosts}
-use Rattle.layout.specs.Blocks.{Blocks, Agree, AgreeBut, missing_count}
+use Rattle.layout.specs.Blocks.{Blocks, Agree, AgreeBut}
 use Rattle.layout.specs.Methods.{Enough}
 
 -- the blocks of a row of as many members as the method may have

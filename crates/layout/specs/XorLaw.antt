@@ -1,10 +1,10 @@
 -- A row with one block of exclusive or: the others give each block. Assumes nothing.
-use Rattle.std.specs.Prelude.{◌≡◌, ℕ, zero, suc, ◌+◌, ◌-◌, ◌%◌, ◌<◌, ◌≤◌, Bool, true, false, cond, ◌≢◌, ◌⊎◌, List, [], ◌∷◌, length, get_or, set, replicate, nat_eq, nat_lt, slice_index_or, slice_set, refl}
-use Rattle.std.proofs.Common.{sym, ap, ◌∙◌, subst, inl, inr, ⊎_elim, not-suc-le-zero, le_of_suc-le-suc, mod-lt, arith, lit≤}
+use Rattle.std.specs.Prelude.{◌≡◌, ℕ, suc, ◌+◌, ◌-◌, ◌%◌, ◌<◌, ◌≤◌, Bool, false, ◌≢◌, List, [], ◌∷◌, length, get_or, set, replicate, nat_eq, nat_lt, slice_index_or, slice_set, refl}
+use Rattle.std.proofs.Common.{sym, ap, ◌∙◌, subst, ⊎_elim, not-suc-le-zero, mod-lt, arith, lit≤}
 use Rattle.std.proofs.Math.Nat.{add-mod_right}
-use Rattle.std.proofs.lemmas.List.{set-get_or, set_past, set-set, get_or-set_same, length-replicate}
+use Rattle.std.proofs.lemmas.List.{set-get_or, set_past, set-set, get_or-set_same}
 use Rattle.std.proofs.lemmas.Bool.{cases_lt, cond_below, cond_above, cond_both, eqb-false, eqb-true, ne_eqb, ltb-true, ltb-false}
-use Rattle.layout.specs.Blocks.{xor, xor_all, put_in, missing_count, first_missing, Whole, Blocks, Agree}
+use Rattle.layout.specs.Blocks.{xor, xor_all, missing_count, first_missing, Whole, Blocks, Agree}
 use Rattle.layout.specs.Methods.{Sound, xor_width, xor_cycle, xor_home, xor_check, xor_row, xor_tolerance, past}
 use Rattle.layout.specs.PutIn.{length_insert, insert_below, insert_above, insert_at, insert_each, set_agree}
 use Rattle.layout.specs.Rewritten.{set_blocks}

@@ -1,5 +1,7 @@
 //! Where the blocks of a disk array lie: extents, the methods of redundancy and their check data,
 //! and the place of every block of a group.
+#![tactic(auto)]
+
 pub mod block;
 pub mod extent;
 pub mod figures;

@@ -5,9 +5,9 @@ use Rattle.jowlspur.specs.Printing.{complaint}
 use Rattle.jowlspur.proofs.Texts.{last_written, last_grown, stopped}
 use Rattle.jowlspur.proofs.answer.complain_of.Goals as goal
 
-pub returns-in-err-put-2 : goal.returns-in-err-put-2
-returns-in-err-put-2 c =
-    stopped c.from-residual-in-err-put-2.result _ _ _ _ c.from-residual-in-err-put-2.ensures.0 (extends_on _ _ _ (_, c.in-ok-put.ensures) (_, c.in-ok-show-number.ensures)) c.in-err-put-2.ensures
+pub returns-in_err-put-2 : goal.returns-in_err-put-2
+returns-in_err-put-2 c =
+    stopped c.from_residual-in_err-put-2.result _ _ _ _ c.from_residual-in_err-put-2.ensures.0 (extends_on _ _ _ (_, c.in_ok-put.ensures) (_, c.in_ok-show_number.ensures)) c.in_err-put-2.ensures
 
 pub returns : goal.returns
 returns c =
@@ -16,7 +16,7 @@ returns c =
     let n = decimal c.args.number in
     let w = complaint c.args.wrong in
     let is = vec_items c.put-3.new.out in
-    last_grown r (codes "error: ") (n ++ (codes ": " ++ w)) was (vec_items c.put.new.out) is c.in-ok-put.ensures
-    (last_grown r n (codes ": " ++ w) (vec_items c.put.new.out) (vec_items c.show-number.new.out) is c.in-ok-show-number.ensures
-    (last_written r (codes ": ") w (vec_items c.show-number.new.out) (vec_items c.put-2.new.out) is c.in-ok-put-2.ensures
+    last_grown r (codes "error: ") (n ++ (codes ": " ++ w)) was (vec_items c.put.new.out) is c.in_ok-put.ensures
+    (last_grown r n (codes ": " ++ w) (vec_items c.put.new.out) (vec_items c.show_number.new.out) is c.in_ok-show_number.ensures
+    (last_written r (codes ": ") w (vec_items c.show_number.new.out) (vec_items c.put-2.new.out) is c.in_ok-put-2.ensures
     (subst (λ l. Written r l (vec_items c.put-2.new.out) is) c.text.ensures c.put-3.ensures)))

@@ -13,4 +13,4 @@ pub returns-in-Err : goal.returns-in-Err
 returns-in-Err c =
     let xs = vec_items c.args.bytes.now in
     let w = c.args.word.now in
-    subst (λ e. (extended xs w ≡ Err e) ⊎ (e ≡ NoMemory)) (sym c.wrong-word.ensures) (word_refused xs w _ _ c.in-Err.ensures)
+    subst (λ e. (extended xs w ≡ Err e) ⊎ (e ≡ NoMemory)) (sym c.wrong_word.ensures) (word_refused xs w _ _ c.in-Err.ensures)

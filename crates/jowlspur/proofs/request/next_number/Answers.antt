@@ -1,8 +1,8 @@
 use Rattle.jowlspur.proofs.Parsing.{numbered_none, numbered_not, numbered_some}
 use Rattle.jowlspur.proofs.request.next_number.Goals as goal
 
-pub returns-in-default : goal.returns-in-default
-returns-in-default c = numbered_none _ c.in-default.ensures.next.0
+pub returns-in_default : goal.returns-in_default
+returns-in_default c = numbered_none _ c.in_default.ensures.next.0
 
 pub returns-in-Some-number : goal.returns-in-Some-number
 returns-in-Some-number c = numbered_some _ _ _ c.in-Some.ensures.next _ c.in-Some-number.ensures

@@ -14,7 +14,7 @@ returns-then-d-n c =
     let below = c.below-memories.ensures in
     let all : c.count.result ≡ length (joined s t) = c.count.ensures ∙ ap (λ (j : JoinedBus MemoryBus MemoryBus). length (joined (memory_drives j.first) (memory_drives j.second))) below in
     let n : c.count-n.result ≡ length s = c.count-n.ensures ∙ ap (λ m. length (memory_drives m)) (c.first.ensures ∙ ap (λ (j : JoinedBus MemoryBus MemoryBus). j.first) below) in
-    first_peek s t _ _ _ _ c.peek.result c.at-drive.result (omega arith) c.at-drive.ensures (omega arith)
+    first_peek s t _ _ _ _ c.peek.result c.at_drive.result (omega arith) c.at_drive.ensures (omega arith)
     (subst (λ m. Reads (memory_drives m) (memory_drives m) c.args.d c.args.b c.args.buf.now c.peek.new.buf c.peek.result) (c.first-then-d-n.ensures ∙ ap (λ (j : JoinedBus MemoryBus MemoryBus). j.first) below) c.peek.ensures.reads)
 
 pub returns-else-d-n : goal.returns-else-d-n
@@ -24,6 +24,6 @@ returns-else-d-n c =
     let below = c.below-memories.ensures in
     let all : c.count.result ≡ length (joined s t) = c.count.ensures ∙ ap (λ (j : JoinedBus MemoryBus MemoryBus). length (joined (memory_drives j.first) (memory_drives j.second))) below in
     let n : c.count-n.result ≡ length s = c.count-n.ensures ∙ ap (λ m. length (memory_drives m)) (c.first.ensures ∙ ap (λ (j : JoinedBus MemoryBus MemoryBus). j.first) below) in
-    second_peek s t _ _ _ _ c.peek-else-d-n.result c.at-drive-else-d-n.result (omega arith) c.at-drive-else-d-n.ensures (omega arith)
+    second_peek s t _ _ _ _ c.peek-else-d-n.result c.at_drive-else-d-n.result (omega arith) c.at_drive-else-d-n.ensures (omega arith)
     (subst (λ k. Reads t t (c.args.d - k) c.args.b c.args.buf.now c.peek-else-d-n.new.buf c.peek-else-d-n.result) n
     (subst (λ m. Reads (memory_drives m) (memory_drives m) (c.args.d - c.count-n.result) c.args.b c.args.buf.now c.peek-else-d-n.new.buf c.peek-else-d-n.result) (c.second.ensures ∙ ap (λ (j : JoinedBus MemoryBus MemoryBus). j.second) below) c.peek-else-d-n.ensures.reads))

@@ -6,14 +6,14 @@ use Rattle.layout.proofs.block.count_missing.Goals.{then-missing-i, else-missing
 pub loop-i-init : goal.loop-i-init
 loop-i-init c = omega arith
 
-pub overflow-add-count : goal.overflow-add-count
-overflow-add-count c = omega (arith, missing_le c.args.missing.now)
+pub overflow_add-count : goal.overflow_add-count
+overflow_add-count c = omega (arith, missing_le c.args.missing.now)
 
 pub loop-i-preserved : goal.loop-i-preserved
 loop-i-preserved c =
     elim c.if-missing-i.branch [
-      | then-missing-i w ↦ count_step c.args.missing.now c.loop-i.i c.loop-i.count c.loop-i.invariant c.loop-i-test.true _ w.count_is w.if-missing-i.true
-      | else-missing-i w ↦ count_skip c.args.missing.now c.loop-i.i c.loop-i.count c.loop-i.invariant c.loop-i-test.true _ w.count_is w.if-missing-i.false
+      | then-missing-i w ↦ count_step c.args.missing.now c.loop-i.i c.loop-i.count c.loop-i.invariant c.loop-i-test.true _ w.count-is w.if-missing-i.true
+      | else-missing-i w ↦ count_skip c.args.missing.now c.loop-i.i c.loop-i.count c.loop-i.invariant c.loop-i-test.true _ w.count-is w.if-missing-i.false
     ]
 
 pub returns : goal.returns

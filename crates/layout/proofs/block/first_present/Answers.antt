@@ -8,4 +8,4 @@ pub loop-present-preserved : goal.loop-present-preserved
 loop-present-preserved c = present_step _ _ c.loop-present.invariant c.loop-present-test.true c.if-not-missing-present.false
 
 pub returns : goal.returns
-returns c = present_end _ _ c.loop-present.invariant c.loop-present.auto.present_end c.loop-present-test.false
+returns c = present_end _ _ c.loop-present.invariant c.loop-present.auto.present-end c.loop-present-test.false

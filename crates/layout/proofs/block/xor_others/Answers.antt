@@ -1,4 +1,4 @@
-use Rattle.std.proofs.Common.{◌≡◌, ℕ, ◌+◌, ◌<◌, ◌≢◌, List, [], length, get_or, drop, set, sym, ap, ◌∙◌, arith, length-set, get_or-set_other, get_or-set_same}
+use Rattle.std.proofs.Common.{◌≡◌, ℕ, ◌+◌, ◌<◌, ◌≢◌, List, [], length, get_or, drop, set, sym, ap, ◌∙◌, length-set, get_or-set_other, get_or-set_same}
 use Rattle.layout.specs.Blocks.{xor, xor_all}
 use Rattle.layout.specs.XorBytes.{others_step, others_skip, others_end}
 use Rattle.layout.proofs.block.xor_others.Goals as goal
@@ -15,8 +15,8 @@ loop-i-preserved c =
     elim c.if-i-m.branch [
       | then-i-m w ↦
           let ne : i ≢ c.args.m = w.if-i-m.true in
-          let e : c.if-i-m.all ≡ xor c.loop-i.all (get_or bs i []) = w.all-is ∙ w.xor-block.ensures in (
-            ap length w.all-is ∙ w.xor-block.array_long,
+          let e : c.if-i-m.all ≡ xor c.loop-i.all (get_or bs i []) = w.all-is ∙ w.xor_block.ensures in (
+            ap length w.all-is ∙ w.xor_block.array_long,
             ap (λ (a : List ℕ). xor a rest) e ∙ others_step c.loop-i.all cut i long (get_or bs i []) (rw get_or-set_other) ∙ c.loop-i.invariant.1,
           )
       | else-i-m w ↦

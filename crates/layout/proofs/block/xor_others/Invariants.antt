@@ -1,4 +1,4 @@
-use Rattle.std.proofs.Common.{◌≡◌, ◌+◌, [], length, drop, set, replicate}
+use Rattle.std.proofs.Common.{◌≡◌, [], length, drop, set, replicate}
 use Rattle.layout.specs.Blocks.{xor, xor_all}
 use Rattle.layout.proofs.block.xor_others.Given as goal
 

@@ -1,9 +1,8 @@
-use Rattle.std.proofs.Common.{◌≡◌, ℕ, ◌+◌, ◌*◌, ◌/◌, ◌%◌, Ok, Err, Result, refl, ap, ◌∙◌, one-mul, div-add-mod', mul-one, arith, lit≤}
+use Rattle.std.proofs.Common.{ℕ, ◌+◌, ◌*◌, ◌/◌, ◌%◌, Ok, Err, Result, refl, ap, ◌∙◌, one-mul, div-add-mod', mul-one, arith, lit≤}
 use Rattle.layout.specs.declared.geometry.Geometry.{Geometry}
 use Rattle.layout.specs.declared.refusal.Refusal.{Refusal}
 use Rattle.layout.specs.declared.refusal.Refusal.TheVariants.{OutOfRule, Outside}
 use Rattle.layout.specs.contracts.parity.ParityMethod.TheImpl as xor
-use Rattle.layout.specs.Refusals.{number_of}
 use Rattle.layout.specs.Places.{Fits}
 use Rattle.layout.specs.Figures.{Answers, Accepted, RefusedBy, ExampleGroup, PlainRules}
 use Rattle.layout.proofs.figures.figures_stand.Goals as goal

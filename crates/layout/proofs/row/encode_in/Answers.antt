@@ -5,9 +5,9 @@ pub returns : goal.returns
 returns g c =
     let n = length c.args.blocks.now in
     let t = c.args.t in
-    let marks = c.mark-checks.new.marks in
+    let marks = c.mark_checks.new.marks in
     let told : (m : ℕ) → m < n → get_or marks m true ≡ g.M.Method.check n t m =
-    λ m h. c.mark-checks.ensures m (omega arith) ∙ ap (λ (k : ℕ). g.M.Method.check k t m) c.requires.room in
+    λ m h. c.mark_checks.ensures m (omega arith) ∙ ap (λ (k : ℕ). g.M.Method.check k t m) c.requires.room in
     let long : length marks ≡ n = omega arith in (
       c.requires.size,
       λ us u agree.

@@ -15,11 +15,11 @@ returns-in-Ok c =
       paired w,
       plain_whole w c.if-word-ne0.false (omega arith),
       omega (arith, length_paired w, c.in-Ok.ensures.cases.0, c.args.out.now.ok.0),
-      c.push-pairs.ensures ∙ ap (λ l. l ++ paired w) c.make-room.ensures.same,
+      c.push_pairs.ensures ∙ ap (λ l. l ++ paired w) c.make_room.ensures.same,
     )
 
 pub returns-in-Err : goal.returns-in-Err
 returns-in-Err c =
     let w = c.args.word.now in
-    not_added _ (paired w) _ _ _ _ _ (vec_capacity c.make-room.new.out) c.in-Err.fault (plain_whole w c.if-word-ne0.false (omega arith))
-    (length_paired w) c.args.out.now.ok.0 c.make-room.ensures.same c.in-Err.ensures.cases
+    not_added _ (paired w) _ _ _ _ _ (vec_capacity c.make_room.new.out) c.in-Err.fault (plain_whole w c.if-word-ne0.false (omega arith))
+    (length_paired w) c.args.out.now.ok.0 c.make_room.ensures.same c.in-Err.ensures.cases

@@ -10,8 +10,8 @@ loop-i-preserved c =
     let was = vec_items c.loop-i.out in
     let rest = paired (drop (2 * (i + 1)) d) in
     let step = paired_more d i (omega arith) in (
-      ap (λ l. l ++ rest) c.push-reserved.ensures.items ∙ append_assoc was (c.pair-value.result ∷ []) rest
-          ∙ ap (λ x. was ++ x ∷ rest) c.pair-value.ensures ∙ ap (λ l. was ++ l) (sym step) ∙ c.loop-i.invariant.0,
+      ap (λ l. l ++ rest) c.push_reserved.ensures.items ∙ append_assoc was (c.pair_value.result ∷ []) rest
+          ∙ ap (λ x. was ++ x ∷ rest) c.pair_value.ensures ∙ ap (λ l. was ++ l) (sym step) ∙ c.loop-i.invariant.0,
       omega (arith, c.loop-i.invariant.1),
     )
 

@@ -5,13 +5,13 @@ use Rattle.script.specs.Showing.{shown_runs}
 use Rattle.script.proofs.Writing.{extends_on}
 use Rattle.script.proofs.show.push_runs.Goals as goal
 
-pub returns-in-err-rest : goal.returns-in-err-rest
-returns-in-err-rest c =
-    let p = err_from_is_err_and c.from-residual.result c.from-residual.ensures.1 in
-    rw p.1 (extends_on _ _ _ c.loop-rest.invariant.1 c.push-first-run.ensures.extends)
+pub returns-in_err-rest : goal.returns-in_err-rest
+returns-in_err-rest c =
+    let p = err_from_is_err_and c.from_residual.result c.from_residual.ensures.1 in
+    rw p.1 (extends_on _ _ _ c.loop-rest.invariant.1 c.push_first_run.ensures.extends)
 
 pub loop-rest-preserved : goal.loop-rest-preserved
-loop-rest-preserved c = (c.in-ok-rest.ensures.same ∙ c.loop-rest.invariant.0, extends_on _ _ _ c.loop-rest.invariant.1 c.push-first-run.ensures.extends)
+loop-rest-preserved c = (c.in_ok-rest.ensures.same ∙ c.loop-rest.invariant.0, extends_on _ _ _ c.loop-rest.invariant.1 c.push_first_run.ensures.extends)
 
 pub returns : goal.returns
 returns c =

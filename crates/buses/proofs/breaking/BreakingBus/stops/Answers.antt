@@ -10,8 +10,8 @@ returns g c =
     let s = g.B.Bus.drives k.below in
     let within : c.args.b < size s c.args.d = omega arith in
     record {
-      stops = stops_reached s k.left c.args.d c.args.b c.args.len c.one-fewer-left.result c.is-gone.result
+      stops = stops_reached s k.left c.args.d c.args.b c.args.len c.one_fewer-left.result c.is_gone.result
           (record { exists = there_by_size s c.args.d c.args.b within; whole = c.if-len-ne-BLOCK.false; within = within })
-          (omega arith) c.one-fewer-left.ensures c.is-gone.ensures;
+          (omega arith) c.one_fewer-left.ensures c.is_gone.ensures;
       below = refl;
     }

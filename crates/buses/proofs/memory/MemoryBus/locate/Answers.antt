@@ -4,8 +4,8 @@ use Rattle.buses.specs.Memory.{Refuses}
 use Rattle.buses.proofs.Locating.{refused, few_drives, small_drives, located}
 use Rattle.buses.proofs.memory.MemoryBus.locate.Goals as goal
 
-pub start-of-requires : goal.start-of-requires
-start-of-requires c =
+pub start_of-requires : goal.start_of-requires
+start_of-requires c =
     let m = c.args.self.now in
     let ok = c.in-None.ensures in
     let dn : c.args.d < fitting (length m.bytes.now) m.number m.capacity = omega arith in
@@ -26,4 +26,4 @@ returns-in-None c =
     let m = c.args.self.now in
     let ok = c.in-None.ensures in
     let dn : c.args.d < fitting (length m.bytes.now) m.number m.capacity = omega arith in
-    located m.bytes.now m.number m.capacity c.args.d c.args.b c.args.len dn c.start-of.result ok.1 ok.2 c.start-of.ensures.value
+    located m.bytes.now m.number m.capacity c.args.d c.args.b c.args.len dn c.start_of.result ok.1 ok.2 c.start_of.ensures.value

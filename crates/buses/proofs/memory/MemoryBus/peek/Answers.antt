@@ -5,10 +5,10 @@ use Rattle.buses.proofs.memory.MemoryBus.peek.Goals as goal
 pub returns : goal.returns
 returns c =
     let m = c.args.self.now in
-    let a = c.in-ok-a.a in
+    let a = c.in_ok-a.a in
     let size : a + 512 - a ≡ 512 = omega arith in
     record {
-      reads = found_read m.bytes.now m.number m.capacity c.args.d c.args.b (length c.args.buf.now) a c.in-ok-a.ensures c.args.buf.now c.copy-block.new.block refl
-          (c.copy-block.ensures ∙ ap (λ w. take w (drop a m.bytes.now)) size);
+      reads = found_read m.bytes.now m.number m.capacity c.args.d c.args.b (length c.args.buf.now) a c.in_ok-a.ensures c.args.buf.now c.copy_block.new.block refl
+          (c.copy_block.ensures ∙ ap (λ w. take w (drop a m.bytes.now)) size);
       unbroken = tt;
     }

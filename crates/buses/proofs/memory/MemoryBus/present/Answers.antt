@@ -1,4 +1,4 @@
-use Rattle.std.proofs.Common.{◌≡◌, ℕ, List, length, Ok, Err, sym, ◌∙◌, arith}
+use Rattle.std.proofs.Common.{◌≡◌, ℕ, length, Err, sym, arith}
 use Rattle.buses.specs.declared.misfit.Misfit.{Misfit}
 use Rattle.buses.specs.declared.misfit.Misfit.TheVariants.{Count, Capacity, Bytes}
 use Rattle.buses.specs.Fitting.{FitsMemory, fitting, fitting_all, fitting_none}

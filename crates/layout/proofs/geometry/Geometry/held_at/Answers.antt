@@ -8,5 +8,5 @@ returns-in-Some g c =
     let s = c.in-Some.ensures in (
       (omega arith, omega arith),
       held g.M.Method g.met.M.Method.sound v.members v.depth v.rows (omega arith) (omega arith) (omega arith) (omega arith)
-          c.args.member c.args.row c.in-Some.slot c.strip-of-strip.result c.width-of.result (omega arith) c.strip-of-strip.ensures c.width-of.ensures s.0 s.1,
+          c.args.member c.args.row c.in-Some.slot c.strip_of-strip.result c.width_of.result (omega arith) c.strip_of-strip.ensures c.width_of.ensures s.0 s.1,
     )

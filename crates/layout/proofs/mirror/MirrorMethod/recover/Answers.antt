@@ -1,4 +1,4 @@
-use Rattle.std.proofs.Common.{◌≡◌, ℕ, ◌≢◌, List, [], length, get_or, replicate, sym, ap, ◌∙◌, arith, get_or-set_other, get_or-set_same, below_more}
+use Rattle.std.proofs.Common.{ℕ, ◌≢◌, [], length, get_or, replicate, sym, ap, ◌∙◌, arith, get_or-set_other, get_or-set_same, below_more}
 use lib.ListN.{length-replicate}
 use Rattle.std.proofs.lemmas.List.{ext_get_or, get_or-replicate}
 use Rattle.layout.specs.CopyLaw.{copy_found}
@@ -10,9 +10,9 @@ returns-after-loop-m c = λ enough us u agree.
     let bs = c.args.blocks.now in
     let n = length bs in
     let b = get_or us 0 [] in
-    let found = copy_found n c.args.-t us c.args.missing.now bs enough.least_members (omega arith) enough.marked enough.few agree in
+    let found = copy_found n c.args._t us c.args.missing.now bs enough.least_members (omega arith) enough.marked enough.few agree in
     ext_get_or [] c.loop-m.blocks (replicate n b) (omega (arith, length-replicate n b)) (λ k h.
-    c.loop-m.invariant k (omega arith) ∙ ap (λ (i : ℕ). get_or bs i []) c.first-present-from.ensures ∙ found ∙ sym (get_or-replicate n k b [] (omega arith)))
+    c.loop-m.invariant k (omega arith) ∙ ap (λ (i : ℕ). get_or bs i []) c.first_present-from.ensures ∙ found ∙ sym (get_or-replicate n k b [] (omega arith)))
 
 pub returns-else-from-blocks : goal.returns-else-from-blocks
 returns-else-from-blocks c = λ enough us u agree. let s = some_present c.args.missing.now (omega arith) in absurd (omega arith)

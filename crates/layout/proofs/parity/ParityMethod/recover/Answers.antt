@@ -1,4 +1,4 @@
-use Rattle.std.proofs.Common.{◌≡◌, ℕ, List, [], length, set, replicate, sym, ap, ◌∙◌, arith}
+use Rattle.std.proofs.Common.{ℕ, List, [], length, set, replicate, sym, ap, ◌∙◌, arith}
 use Rattle.std.proofs.lemmas.List.{set_past}
 use Rattle.layout.specs.Blocks.{xor, xor_all}
 use Rattle.layout.specs.XorLaw.{xor_fixed}
@@ -11,11 +11,11 @@ put bs i = set bs i (xor (replicate 512 0) (xor_all (set bs i [])))
 pub returns-then-m-blocks : goal.returns-then-m-blocks
 returns-then-m-blocks c = λ enough us u agree.
     let bs = c.args.blocks.now in
-    ap (set bs c.first-missing-m.result) c.xor-others-block.ensures ∙ ap (put bs) c.first-missing-m.ensures
-    ∙ xor_fixed (length bs) c.args.-t us enough.least_members u c.args.missing.now bs (omega arith) enough.marked enough.few agree
+    ap (set bs c.first_missing-m.result) c.xor_others-block.ensures ∙ ap (put bs) c.first_missing-m.ensures
+    ∙ xor_fixed (length bs) c.args._t us enough.least_members u c.args.missing.now bs (omega arith) enough.marked enough.few agree
 
 pub returns-else-m-blocks : goal.returns-else-m-blocks
 returns-else-m-blocks c = λ enough us u agree.
     let bs = c.args.blocks.now in
-    sym (set_past bs c.first-missing-m.result _ c.if-m-blocks.false) ∙ ap (put bs) c.first-missing-m.ensures
-    ∙ xor_fixed (length bs) c.args.-t us enough.least_members u c.args.missing.now bs (omega arith) enough.marked enough.few agree
+    sym (set_past bs c.first_missing-m.result _ c.if-m-blocks.false) ∙ ap (put bs) c.first_missing-m.ensures
+    ∙ xor_fixed (length bs) c.args._t us enough.least_members u c.args.missing.now bs (omega arith) enough.marked enough.few agree
