@@ -62,7 +62,7 @@ impl<T: Drop> OfBlock<T> for Result<T, GroupFault> {
 impl GroupSlot {
     // Reads protected block `q` by the group's method.
     fn read<B: Bus>(&self, bus: &mut B, q: usize, buf: &mut [u8]) -> Result<(), GroupFault>
-        ensures { Reads (method self.now.kind) (drives bus.old) (drives bus.new) self.now.group q buf.old buf.new result }
+        ensures { Reads (method self.now.kind) (B.Bus.drives bus.old) (B.Bus.drives bus.new) self.now.group q buf.old buf.new result }
     {
         match self.kind {
             MethodKind::NoRedundancy => self.group.read::<B, Unprotected>(bus, q, buf),
@@ -73,7 +73,7 @@ impl GroupSlot {
 
     // Writes protected block `q` by the group's method.
     fn write<B: Bus>(&self, bus: &mut B, q: usize, bytes: &[u8]) -> Result<(), GroupFault>
-        ensures { Writes (method self.now.kind) (drives bus.old) (drives bus.new) self.now.group q bytes.now result }
+        ensures { Writes (method self.now.kind) (B.Bus.drives bus.old) (B.Bus.drives bus.new) self.now.group q bytes.now result }
     {
         match self.kind {
             MethodKind::NoRedundancy => self.group.write::<B, Unprotected>(bus, q, bytes),
@@ -92,7 +92,7 @@ impl Array {
         b: usize,
         buf: &mut [u8],
     ) -> Result<(), Refused>
-        ensures { OnDrives (drives bus.old) (config self.now) → ReadsBlock (drives bus.old) (drives bus.new) (config self.now) v b buf.old buf.new result }
+        ensures { OnDrives (B.Bus.drives bus.old) (config self.now) → ReadsBlock (B.Bus.drives bus.old) (B.Bus.drives bus.new) (config self.now) v b buf.old buf.new result }
     {
         let found = self.admit(v, b, buf.len())?;
         found
@@ -109,7 +109,7 @@ impl Array {
         b: usize,
         bytes: &[u8],
     ) -> Result<(), Refused>
-        ensures { OnDrives (drives bus.old) (config self.now) → WritesBlock (drives bus.old) (drives bus.new) (config self.now) v b bytes.now result }
+        ensures { OnDrives (B.Bus.drives bus.old) (config self.now) → WritesBlock (B.Bus.drives bus.old) (B.Bus.drives bus.new) (config self.now) v b bytes.now result }
     {
         let volume = self.volume(v)?;
         let found = self.admit(v, b, bytes.len())?;

@@ -47,7 +47,7 @@ pub(crate) fn fields_fit(kind: MethodKind, depth: usize, extents: &[ExtentRow]) 
 
 // Whether every drive is on the bus.
 pub(crate) fn all_on_bus<B: Bus>(bus: &B, extents: &[ExtentRow]) -> bool
-    ensures { MatchBool result (EachExtent extents.now (λ e. e.drive < length (drives bus.now))) (EachExtent extents.now (λ e. e.drive < length (drives bus.now)) → ⊥) }
+    ensures { MatchBool result (EachExtent extents.now (λ e. e.drive < length (B.Bus.drives bus.now))) (EachExtent extents.now (λ e. e.drive < length (B.Bus.drives bus.now)) → ⊥) }
 {
     let count = bus.count();
     for i in 0..extents.len() {
@@ -60,7 +60,7 @@ pub(crate) fn all_on_bus<B: Bus>(bus: &B, extents: &[ExtentRow]) -> bool
 
 // Whether the extent ends no later than its drive.
 fn lies_inside<B: Bus>(bus: &B, e: ExtentRow) -> bool
-    ensures { MatchBool result (e.start + e.count ≤ size (drives bus.now) e.drive) (e.start + e.count ≤ size (drives bus.now) e.drive → ⊥) }
+    ensures { MatchBool result (e.start + e.count ≤ size (B.Bus.drives bus.now) e.drive) (e.start + e.count ≤ size (B.Bus.drives bus.now) e.drive → ⊥) }
 {
     let capacity = bus.capacity(e.drive);
     if e.start > capacity {
@@ -71,7 +71,7 @@ fn lies_inside<B: Bus>(bus: &B, e: ExtentRow) -> bool
 
 // Whether every extent lies on its drive.
 pub(crate) fn all_inside<B: Bus>(bus: &B, extents: &[ExtentRow]) -> bool
-    ensures { MatchBool result (EachExtent extents.now (λ e. e.start + e.count ≤ size (drives bus.now) e.drive)) (EachExtent extents.now (λ e. e.start + e.count ≤ size (drives bus.now) e.drive) → ⊥) }
+    ensures { MatchBool result (EachExtent extents.now (λ e. e.start + e.count ≤ size (B.Bus.drives bus.now) e.drive)) (EachExtent extents.now (λ e. e.start + e.count ≤ size (B.Bus.drives bus.now) e.drive) → ⊥) }
 {
     for i in 0..extents.len() {
         if !lies_inside(bus, extents[i]) {

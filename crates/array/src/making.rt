@@ -61,8 +61,8 @@ fn build(kind: MethodKind, g: usize, depth: usize, extents: &[ExtentRow]) -> Opt
 // Sets the blocks of the extents, which become the members of group `g`, to zeros; stops at the first that its drive
 // refuses.
 fn fill_group<B: Bus>(bus: &mut B, g: usize, extents: &[ExtentRow]) -> Result<(), Refused>
-    requires { (EachExtent extents.now Sound) × (Lying (drives bus.old) extents.now) }
-    ensures { FillsGroup (drives bus.old) (drives bus.new) g extents.now result }
+    requires { (EachExtent extents.now Sound) × (Lying (B.Bus.drives bus.old) extents.now) }
+    ensures { FillsGroup (B.Bus.drives bus.old) (B.Bus.drives bus.new) g extents.now result }
 {
     match fill(bus, g, extents) {
         Ok(()) => Ok(()),
@@ -139,7 +139,7 @@ impl Array {
         depth: usize,
         extents: &[ExtentRow],
     ) -> Result<GroupSlot, Refused>
-        ensures { Plans (drives bus.now) (config self.now) g code depth extents.now result }
+        ensures { Plans (B.Bus.drives bus.now) (config self.now) g code depth extents.now result }
     {
         let kind = match MethodKind::from_code(code) {
             Some(kind) => kind,
@@ -176,7 +176,7 @@ impl Array {
         depth: usize,
         extents: &[ExtentRow],
     ) -> Result<(), Refused>
-        ensures { MakesGroup (drives bus.old) (drives bus.new) (config self.old) (config self.new) g code depth extents.now result }
+        ensures { MakesGroup (B.Bus.drives bus.old) (B.Bus.drives bus.new) (config self.old) (config self.new) g code depth extents.now result }
     {
         let slot = self.plan_group(bus, g, code, depth, extents)?;
         fill_group(bus, g, extents)?;

@@ -30,7 +30,7 @@ fn make_group<B: Bus>(
     depth: usize,
     extents: &[ExtentRow],
 ) -> Answer
-    ensures { (buffer : List ℕ) → Step (entry (Call.MakeGroup group code depth extents.entry) buffer result buffer (drives bus.old) (drives bus.new)) array.old array.new (drives bus.old) (drives bus.new) }
+    ensures { (buffer : List ℕ) → Step (entry (Call.MakeGroup group code depth extents.entry) buffer result buffer (B.Bus.drives bus.old) (B.Bus.drives bus.new)) array.old array.new (B.Bus.drives bus.old) (B.Bus.drives bus.new) }
 {
     done(array.make_group(bus, group, code, depth, extents))
 }
@@ -81,13 +81,13 @@ fn map(array: &Array, volume: usize, block: usize) -> Answer
 }
 
 fn read<B: Bus>(array: &Array, bus: &mut B, volume: usize, block: usize, buf: &mut [u8]) -> Answer
-    ensures { Step (entry (Call.Read volume block) buf.old result buf.new (drives bus.old) (drives bus.new)) array.now array.now (drives bus.old) (drives bus.new) }
+    ensures { Step (entry (Call.Read volume block) buf.old result buf.new (B.Bus.drives bus.old) (B.Bus.drives bus.new)) array.now array.now (B.Bus.drives bus.old) (B.Bus.drives bus.new) }
 {
     done(array.read(bus, volume, block, buf))
 }
 
 fn write<B: Bus>(array: &Array, bus: &mut B, volume: usize, block: usize, bytes: &[u8]) -> Answer
-    ensures { Step (entry (Call.Write volume block) bytes.now result bytes.now (drives bus.old) (drives bus.new)) array.now array.now (drives bus.old) (drives bus.new) }
+    ensures { Step (entry (Call.Write volume block) bytes.now result bytes.now (B.Bus.drives bus.old) (B.Bus.drives bus.new)) array.now array.now (B.Bus.drives bus.old) (B.Bus.drives bus.new) }
 {
     bytes_fit(bytes);
     done(array.write(bus, volume, block, bytes))
@@ -96,7 +96,7 @@ fn write<B: Bus>(array: &Array, bus: &mut B, volume: usize, block: usize, bytes:
 // One call: whatever log the tables and the drives keep, the answer is right after it, and they keep the log with this
 // entry at its end.
 fn answer<B: Bus>(array: &mut Array, bus: &mut B, call: Call, buf: &mut [u8]) -> Answer
-    ensures { Step (entry call.entry buf.old result buf.new (drives bus.old) (drives bus.new)) array.old array.new (drives bus.old) (drives bus.new) }
+    ensures { Step (entry call.entry buf.old result buf.new (B.Bus.drives bus.old) (B.Bus.drives bus.new)) array.old array.new (B.Bus.drives bus.old) (B.Bus.drives bus.new) }
 {
     match call {
         Call::MakeGroup {
@@ -119,7 +119,7 @@ fn answer<B: Bus>(array: &mut Array, bus: &mut B, call: Call, buf: &mut [u8]) ->
 /// One call on an array in use, after any run of calls that led to it from a new array, with any drives broken meanwhile: it
 /// is performed as promised, and the run goes on by it.
 pub fn perform<B: Bus>(array: &mut Array, bus: &mut B, call: Call, buf: &mut [u8]) -> Answer
-    ensures { Goes (entry call.entry buf.old result buf.new (drives bus.old) (drives bus.new)) array.old array.new (drives bus.old) (drives bus.new) }
+    ensures { Goes (entry call.entry buf.old result buf.new (B.Bus.drives bus.old) (B.Bus.drives bus.new)) array.old array.new (B.Bus.drives bus.old) (B.Bus.drives bus.new) }
 {
     answer(array, bus, call, buf)
 }

@@ -12,12 +12,12 @@ use std::alloc::{AllocError, Global};
 /// What happens to a bus between two calls: some drives may break, and nothing else changes.
 pub trait Between<B: Bus> {
     fn between(&mut self, bus: &mut B)
-        ensures { Worse (drives bus.old) (drives bus.new) };
+        ensures { Worse (B.Bus.drives bus.old) (B.Bus.drives bus.new) };
 }
 
 // Of every drive whether it is broken.
 fn marks<B: Bus>(bus: &B) -> [bool; 16]
-    ensures { (d : ℕ) → slice_index_or result d true ≡ (at (drives bus.now) d).broken }
+    ensures { (d : ℕ) → slice_index_or result d true ≡ (at (B.Bus.drives bus.now) d).broken }
 {
     let mut marks = [true; 16];
     for d in 0..16usize {
@@ -33,7 +33,7 @@ fn turn<'a, B: Bus>(
     bus: &mut B,
     request: Request<'a>,
 ) -> Result<Event<'a>, AllocError>
-    ensures turned { IfOk result (λ e. Turned request.entry e array.old array.new (drives bus.old) (drives bus.new)) }
+    ensures turned { IfOk result (λ e. Turned request.entry e array.old array.new (B.Bus.drives bus.old) (B.Bus.drives bus.new)) }
     ensures refused { OnErr result ((bus.new ≡ bus.old) × (array.new ≡ array.old)) }
 {
     let buffer = request.buffer.to_vec(heap)?;
@@ -59,7 +59,7 @@ pub fn run<'a, B: Bus, W: Between<B>>(
     world: &mut W,
     requests: &[Request<'a>],
 ) -> Result<Vec<Event<'a>>, AllocError>
-    ensures { IfOk result (λ log. Ran (drives bus.old) (drives bus.new) requests.now log.items) }
+    ensures { IfOk result (λ log. Ran (B.Bus.drives bus.old) (B.Bus.drives bus.new) requests.now log.items) }
 {
     let mut log = Vec::with_capacity(heap, requests.len())?;
     let mut array = Array::new();

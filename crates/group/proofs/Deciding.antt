@@ -1,5 +1,5 @@
 -- From how a write was settled to what its contract says.
-use Rattle.std.proofs.Common.{◌≡◌, ℕ, ◌+◌, ◌<◌, ◌≤◌, Bool, true, false, leb, ◌⊎◌, List, [], length, get_or, set, Ok, Err, Result, sym, refl, ap, ◌∙◌, subst, inl, inr, arith}
+use Rattle.std.proofs.Common.{◌≡◌, ℕ, ◌<◌, ◌≤◌, Bool, leb, List, [], length, get_or, set, Ok, Err, Result, ap, ◌∙◌, subst, inr, arith}
 use Rattle.std.proofs.lemmas.Bool.{or_right, le-leb}
 use Rattle.bus.specs.Drives.{Drive, at}
 use Rattle.layout.specs.Blocks.{Blocks}
@@ -8,7 +8,7 @@ use Rattle.layout.specs.declared.method.Method.{Ghosts}
 use Rattle.group.specs.declared.member.Member.{Member}
 use Rattle.group.specs.declared.fault.RowFault.{RowFault}
 use Rattle.group.specs.declared.fault.RowFault.TheVariants.{Lost, Failed}
-use Rattle.group.specs.Group.{member, missing, RowLost, BlockLost, RowHolds, Shape, Frame, Its, ItsBlock}
+use Rattle.group.specs.Group.{member, missing, RowLost, RowHolds, Shape, Frame, Its, ItsBlock}
 use Rattle.group.specs.Steps.{Stores}
 use Rattle.group.specs.Sweeps.{Gathered}
 use Rattle.group.specs.Requests.{Settled, Suffices, Decided, Changes, Rebuilds}

@@ -1,5 +1,5 @@
 -- Filling extents with zeros, block by block and extent by extent.
-use Rattle.std.proofs.Common.{◌≡◌, ℕ, ◌+◌, ◌-◌, ◌<◌, ◌≤◌, true, false, ◌⊎◌, List, [], length, get_or, Ok, Err, Result, sym, refl, ap, ◌∙◌, subst, inl, inr, ⊎_elim, arith}
+use Rattle.std.proofs.Common.{◌≡◌, ℕ, ◌+◌, ◌-◌, ◌<◌, ◌≤◌, ◌⊎◌, List, length, Ok, Err, Result, sym, refl, ap, ◌∙◌, subst, inl, inr, ⊎_elim, arith}
 use Rattle.std.proofs.lemmas.Bool.{cases_eq, cases_lt}
 use Rattle.bus.specs.declared.fault.BusFault.{BusFault}
 use Rattle.bus.specs.declared.fault.BusFault.TheVariants.{NoDrive, Length, Range, Broken}
@@ -8,10 +8,10 @@ use Rattle.bus.specs.Requests.{WroteBy, Faults, Writes}
 use Rattle.layout.specs.declared.extent.ExtentRow.{ExtentRow}
 use Rattle.layout.specs.Extents.{Sound, Covers}
 use Rattle.group.specs.declared.fault.RowFault.{RowFault}
-use Rattle.group.specs.declared.fault.RowFault.TheVariants.{Lost, Failed}
+use Rattle.group.specs.declared.fault.RowFault.TheVariants.{Failed}
 use Rattle.group.specs.Seen.{seen}
 use Rattle.group.specs.Group.{Frame, NoBlock}
-use Rattle.group.specs.Filling.{extent, zeros, Zeroed, Stops, OneDrive, FillsOne, SomeDrive, SomeBlock, Stopped, Filled}
+use Rattle.group.specs.Filling.{extent, zeros, Zeroed, OneDrive, FillsOne, SomeDrive, SomeBlock, Stopped, Filled}
 use Rattle.group.proofs.Frames.{frame_refl, frame_trans, frame_wider, broke_frame, broke_there, stored_frame, stored_there, stored_broken}
 
 -- the first k blocks of the extent e are filled, and nothing else changed

@@ -1,18 +1,18 @@
 -- What a request changes on a bus.
-use Rattle.std.proofs.Common.{◌≡◌, ℕ, suc, ◌+◌, ◌<◌, ◌≤◌, Bool, true, false, ◌||◌, leb, ◌≢◌, ◌⊎◌, List, [], ◌∷◌, map, length, get_or, set, Ok, Err, Result, sym, refl, ap, ◌∙◌, subst, inl, inr, ⊎_elim, arith}
-use Rattle.std.proofs.lemmas.List.{get_or-set_same, get_or-set_other, length-set, get_or_past}
-use Rattle.std.proofs.lemmas.Bool.{cases_eq, cases_lt, cases_Bool, true≢false, false≢true, both_ways, or_cases, or_left, or_right, or_parts}
+use Rattle.std.proofs.Common.{◌≡◌, ℕ, suc, ◌+◌, ◌<◌, ◌≤◌, Bool, true, false, leb, List, [], ◌∷◌, length, get_or, set, Ok, Err, Result, sym, refl, ap, ◌∙◌, subst, ⊎_elim, arith}
+use Rattle.std.proofs.lemmas.List.{get_or-set_same, get_or-set_other, length-set}
+use Rattle.std.proofs.lemmas.Bool.{cases_eq, cases_Bool, false≢true, both_ways, or_cases, or_left, or_right}
 use Rattle.bus.specs.declared.fault.BusFault.{BusFault}
 use Rattle.bus.specs.declared.fault.BusFault.TheVariants.{NoDrive, Length, Range, Broken}
 use Rattle.bus.specs.Drives.{Drive, at, size, block, stored, broke, absent}
-use Rattle.bus.specs.Requests.{Placed, Faults, Reads, Writes}
+use Rattle.bus.specs.Requests.{Placed, Faults, Writes}
 use Rattle.bus.proofs.Changing.{there_by_size}
 use Rattle.layout.specs.Blocks.{missing_count}
 use Rattle.layout.specs.Methods.{Sound}
 use Rattle.layout.specs.declared.method.Method.{Ghosts}
 use Rattle.group.specs.declared.member.Member.{Member}
-use Rattle.group.specs.Group.{member, missing, missings, held, RowLost, Frame, Its, ItsBlock, NoBlock}
-use Rattle.group.specs.declared.fault.RowFault.TheVariants.{Lost, Failed}
+use Rattle.group.specs.Group.{missing, missings, held, Frame, Its, ItsBlock, NoBlock}
+use Rattle.group.specs.declared.fault.RowFault.TheVariants.{Failed}
 use Rattle.group.specs.Seen.{seen}
 use Rattle.group.specs.Steps.{Fetched, Sent, Stores}
 

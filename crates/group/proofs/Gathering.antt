@@ -1,14 +1,14 @@
 -- Reading member after member.
-use Rattle.std.proofs.Common.{◌≡◌, ℕ, ◌+◌, ◌<◌, ◌≤◌, Bool, true, false, ◌||◌, leb, ◌≢◌, List, [], map, length, get_or, set, sym, refl, ap, ◌∙◌, subst, ⊎_elim, arith}
+use Rattle.std.proofs.Common.{◌≡◌, ℕ, ◌+◌, ◌<◌, ◌≤◌, Bool, true, false, ◌||◌, leb, ◌≢◌, List, [], length, get_or, set, sym, refl, ap, ◌∙◌, subst, ⊎_elim, arith}
 use Rattle.std.proofs.lemmas.List.{get_or-set_same, get_or-set_other, get_or-map, length-map}
-use Rattle.std.proofs.lemmas.Bool.{cases_eq, cases_lt, cases_Bool, both_ways, true≢false, false≢true}
+use Rattle.std.proofs.lemmas.Bool.{cases_eq, cases_lt, cases_Bool, both_ways}
 use Rattle.bus.specs.Drives.{Drive, at, size}
 use Rattle.layout.specs.Blocks.{missing_count}
 use Rattle.group.specs.declared.member.Member.{Member}
-use Rattle.group.specs.Group.{nobody, member, missing, missings, held, RowLost, Shape, Frame, Ours, NoBlock, Its}
+use Rattle.group.specs.Group.{nobody, member, missing, missings, held, Shape, Frame, Ours, NoBlock, Its}
 use Rattle.group.specs.Steps.{Fetched}
 use Rattle.group.specs.Sweeps.{Gathered}
-use Rattle.group.proofs.Frames.{frame_refl, frame_trans, frame_wider, missing_stays, missing_back}
+use Rattle.group.proofs.Frames.{frame_refl, frame_trans, frame_wider, missing_stays}
 use Rattle.group.proofs.Counts.{missing_count_within, missing_count_set}
 
 -- the members below i were gone over, and s is the bus now

@@ -1,8 +1,8 @@
 -- What a row holds after its members were read or written.
-use Rattle.std.proofs.Common.{◌≡◌, ℕ, ◌+◌, ◌<◌, ◌≤◌, Bool, true, false, ◌||◌, eqb, leb, ◌≢◌, List, [], length, get_or, set, sym, refl, ap, ◌∙◌, subst, ⊎_elim, arith}
+use Rattle.std.proofs.Common.{◌≡◌, ℕ, ◌+◌, ◌<◌, ◌≤◌, Bool, true, false, ◌||◌, eqb, leb, ◌≢◌, List, [], length, get_or, set, sym, ap, ◌∙◌, subst, ⊎_elim, arith}
 use Rattle.std.proofs.lemmas.List.{get_or-set_same, get_or-set_other, get_or-map, length-map}
 use Rattle.std.proofs.lemmas.Bool.{cases_eq, cases_lt, cases_Bool, both_ways, eq-eqb, ne_eqb, or_left, or_right, or_from, le-leb}
-use Rattle.bus.specs.Drives.{Drive, at, size}
+use Rattle.bus.specs.Drives.{Drive, at}
 use Rattle.layout.specs.Blocks.{missing_count, Whole, Blocks, Agree}
 use Rattle.layout.specs.Methods.{Sound}
 use Rattle.layout.specs.declared.method.Method.{Ghosts}
@@ -12,7 +12,7 @@ use Rattle.group.specs.Group.{nobody, member, missing, missings, held, RowLost, 
 use Rattle.group.specs.Elsewhere.{OthersHold}
 use Rattle.group.specs.Steps.{Sent}
 use Rattle.group.specs.Sweeps.{Gathered, Spread, concerned}
-use Rattle.group.proofs.Frames.{one_member, frame_trans, frame_wider, missing_stays, missing_back, missing_count_more}
+use Rattle.group.proofs.Frames.{one_member, missing_back, missing_count_more}
 use Rattle.group.proofs.Counts.{missing_count_within}
 
 module _ (m n : List Drive) (r : ℕ) (gs : List Member) (D : ℕ → Type 0) (P : ℕ → ℕ → Type 0) (f : Frame m n D P) where

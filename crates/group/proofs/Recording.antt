@@ -1,5 +1,5 @@
 -- From what is told of a row to what a call on its group says.
-use Rattle.std.proofs.Common.{◌≡◌, ℕ, ◌+◌, ◌/◌, ◌<◌, ◌≤◌, Bool, true, false, List, [], ◌++◌, length, get_or, take, drop, set, Ok, Err, Result, sym, refl, ap, ◌∙◌, subst, inl, inr, ⊎_elim, arith}
+use Rattle.std.proofs.Common.{◌≡◌, ℕ, ◌+◌, ◌/◌, ◌<◌, List, ◌++◌, length, take, drop, set, Ok, Err, sym, refl, ap, ◌∙◌, subst, inl, inr, ⊎_elim, arith}
 use Rattle.std.proofs.lemmas.List.{get_or-take, length-take-le}
 use Rattle.std.proofs.lemmas.Bool.{cases_order}
 use Rattle.bus.specs.Drives.{Drive, size}
@@ -7,14 +7,13 @@ use Rattle.layout.specs.Blocks.{Blocks}
 use Rattle.layout.specs.Methods.{Sound}
 use Rattle.layout.specs.declared.method.Method.{Ghosts}
 use Rattle.layout.specs.declared.geometry.Place.{Place}
-use Rattle.group.specs.declared.member.Member.{Member}
 use Rattle.group.specs.declared.record.Group.{Group}
 use Rattle.group.specs.declared.fault.RowFault.{RowFault}
 use Rattle.group.specs.declared.fault.RowFault.TheVariants.{Lost as LostAt, Failed as FailedAt}
 use Rattle.group.specs.declared.fault.GroupFault.{GroupFault}
-use Rattle.group.specs.Group.{nobody, member, missing, BlockLost, RowHolds, Shape, Frame, Ours, NoBlock}
-use Rattle.group.specs.Requests.{Blames, Settled, HomeFirst, RowRead, RowWrite, RowRebuild}
-use Rattle.group.specs.Record.{width_of, members_of, Lies, Ready, Blamable, raised, Names, ReadOk, ReadLost, Reads, WriteOk, Writes, next_row, Rebuildable, RebuildOk, Rebuilds}
+use Rattle.group.specs.Group.{nobody, member, missing, BlockLost, RowHolds, Shape}
+use Rattle.group.specs.Requests.{Blames, HomeFirst, RowRead, RowWrite, RowRebuild}
+use Rattle.group.specs.Record.{width_of, members_of, Lies, Ready, Blamable, raised, Names, ReadOk, Reads, WriteOk, Writes, next_row, Rebuildable, RebuildOk, Rebuilds}
 
 module _ (g : Group) (eight : length g.members ≡ 8) where
   pub length_members : length (members_of g) ≡ width_of g

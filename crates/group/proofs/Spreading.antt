@@ -1,7 +1,7 @@
 -- Writing member after member.
 use Rattle.std.proofs.Common.{◌≡◌, ℕ, ◌+◌, ◌<◌, ◌≤◌, Bool, true, false, ◌≢◌, List, [], length, get_or, sym, refl, ap, ◌∙◌, subst, ⊎_elim, arith}
 use Rattle.std.proofs.lemmas.Bool.{cases_eq, both_ways}
-use Rattle.bus.specs.Drives.{Drive, at, size}
+use Rattle.bus.specs.Drives.{Drive, size}
 use Rattle.group.specs.declared.member.Member.{Member}
 use Rattle.group.specs.Group.{member, missing, held, Shape, Frame, Ours, InRow, Its, ItsBlock}
 use Rattle.group.specs.Steps.{Sent}

@@ -1,7 +1,6 @@
 -- A request at one row leaves every other row, of its group and of any other, as it was.
 use Rattle.std.specs.Prelude.{◌≡◌, ℕ, ◌+◌, ◌<◌, ◌≤◌, List, length, ◌≢◌}
 use Rattle.bus.specs.Drives.{Drive}
-use Rattle.layout.specs.Methods.{Sound}
 use Rattle.layout.specs.declared.method.Method.{Ghosts}
 use Rattle.group.specs.declared.member.Member.{Member}
 use Rattle.group.specs.Group.{member, RowHolds, Frame, Ours, InRow}

@@ -1,6 +1,6 @@
 -- The members of a group on a bus, and what a row of them holds. A row is one block of each member.
 -- Throughout, m is the meaning of the bus, k the method, t the strip that the row r is of, and gs the members.
-use Rattle.std.specs.Prelude.{◌≡◌, ℕ, ◌+◌, ◌<◌, ◌≤◌, Bool, true, false, ◌||◌, List, [], map, length, nat_le, slice_index_or}
+use Rattle.std.specs.Prelude.{◌≡◌, ℕ, ◌+◌, ◌<◌, Bool, true, false, ◌||◌, List, [], map, length, nat_le, slice_index_or}
 use Rattle.bus.specs.Drives.{Drive, at, size, block}
 use Rattle.layout.specs.Blocks.{missing_count}
 use Rattle.layout.specs.declared.method.Method.{Ghosts}

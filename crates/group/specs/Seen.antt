@@ -2,7 +2,7 @@
 use Rattle.std.specs.Prelude.{ℕ, Ok, Err, Result}
 use Rattle.bus.specs.declared.fault.BusFault.{BusFault}
 use Rattle.group.specs.declared.fault.RowFault.{RowFault}
-use Rattle.group.specs.declared.fault.RowFault.TheVariants.{Lost, Failed}
+use Rattle.group.specs.declared.fault.RowFault.TheVariants.{Failed}
 
 abbrev pub seen : {T : Type 0} → ℕ → ℕ → Result T BusFault → Result T RowFault
 seen i r (Ok x) = Ok x

@@ -1,6 +1,6 @@
 -- What one request at a member does: m is the meaning of the bus before, and n after.
-use Rattle.std.specs.Prelude.{◌≡◌, ℕ, ◌+◌, ◌<◌, ◌≤◌, Bool, true, false, List, [], length, get_or, Ok, Err, Result}
-use Rattle.bus.specs.Drives.{Drive, at, size, block}
+use Rattle.std.specs.Prelude.{◌≡◌, ℕ, ◌+◌, Bool, true, false, List, Ok, Err, Result}
+use Rattle.bus.specs.Drives.{Drive, at}
 use Rattle.bus.specs.declared.fault.BusFault.TheVariants.{Broken}
 use Rattle.group.specs.declared.member.Member.{Member}
 use Rattle.group.specs.declared.fault.RowFault.{RowFault}

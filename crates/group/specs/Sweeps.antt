@@ -1,5 +1,5 @@
 -- What going over the members of a row does: m is the meaning of the bus before, and n after.
-use Rattle.std.specs.Prelude.{◌≡◌, ℕ, ◌+◌, ◌<◌, ◌≤◌, Bool, true, false, ◌||◌, List, [], length, ◌==◌, slice_index_or}
+use Rattle.std.specs.Prelude.{◌≡◌, ℕ, ◌<◌, ◌≤◌, Bool, true, false, ◌||◌, List, [], length, ◌==◌, slice_index_or}
 use Rattle.bus.specs.Drives.{Drive}
 use Rattle.layout.specs.Blocks.{missing_count}
 use Rattle.group.specs.declared.member.Member.{Member}

@@ -22,7 +22,7 @@ fn sound_rows(extents: &[ExtentRow]) -> bool
 // Sets every block of `e`, which is member `i`, to zeros; stops at the first that its drive refuses.
 fn fill_extent<B: Bus>(bus: &mut B, e: ExtentRow, i: usize) -> Result<(), RowFault>
     requires { Sound e }
-    ensures { FillsOne (drives bus.old) (drives bus.new) e i result }
+    ensures { FillsOne (B.Bus.drives bus.old) (B.Bus.drives bus.new) e i result }
 {
     let zeros = [0u8; 512];
     for r in 0..e.count {
@@ -33,7 +33,7 @@ fn fill_extent<B: Bus>(bus: &mut B, e: ExtentRow, i: usize) -> Result<(), RowFau
 
 /// Sets every block of the extents, which become the members of the group `number`, to zeros.
 pub fn fill<B: Bus>(bus: &mut B, number: usize, extents: &[ExtentRow]) -> Result<(), GroupFault>
-    ensures { Fills (drives bus.old) (drives bus.new) extents.now number result }
+    ensures { Fills (B.Bus.drives bus.old) (B.Bus.drives bus.new) extents.now number result }
 {
     if !sound_rows(extents) {
         return Err(GroupFault::Outside);

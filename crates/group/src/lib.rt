@@ -1,4 +1,6 @@
 //! The rows of a redundancy group above any bus: reading, writing, rebuilding and filling, whatever drives break.
+#![tactic(auto)]
+
 pub mod fault;
 pub mod fill;
 pub mod making;

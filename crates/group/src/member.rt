@@ -13,7 +13,7 @@ pub struct Member {
 
 // Whether the member is missing in the row `r`.
 pub fn is_missing<B: Bus>(bus: &B, g: Member, r: usize) -> bool
-    ensures { result ≡ missing (drives bus.now) r g }
+    ensures { result ≡ missing (B.Bus.drives bus.now) r g }
 {
     bus.broken(g.drive) || g.mark <= r
 }

@@ -23,16 +23,16 @@ fn read_in<B: Bus, M: Method>(
     blocks: &mut [Block],
     unread: &mut [bool],
 ) -> Result<Block, RowFault>
-    requires shape { Shape (drives bus.old) r members.now }
+    requires shape { Shape (B.Bus.drives bus.old) r members.now }
     requires size { (M.Method.least ≤ length members.now) × (length members.now ≤ 8) }
     requires user { p < M.Method.width (length members.now) }
     requires blocks { length blocks.old ≡ length members.now }
     requires unread { length unread.old ≡ length members.now }
-    ensures frame { Frame (drives bus.old) (drives bus.new) (Ours members.now) NoBlock }
-    ensures settled { Settled (M.Method.tolerance (length members.now)) (drives bus.new) r members.now (M.Method.home (length members.now) t p) result }
-    ensures first { HomeFirst (drives bus.old) (drives bus.new) r members.now (M.Method.home (length members.now) t p) }
-    ensures keeps { Keeps M.Method t (drives bus.old) (drives bus.new) r members.now }
-    ensures gives { Gives M.Method t (drives bus.old) r members.now p result }
+    ensures frame { Frame (B.Bus.drives bus.old) (B.Bus.drives bus.new) (Ours members.now) NoBlock }
+    ensures settled { Settled (M.Method.tolerance (length members.now)) (B.Bus.drives bus.new) r members.now (M.Method.home (length members.now) t p) result }
+    ensures first { HomeFirst (B.Bus.drives bus.old) (B.Bus.drives bus.new) r members.now (M.Method.home (length members.now) t p) }
+    ensures keeps { Keeps M.Method t (B.Bus.drives bus.old) (B.Bus.drives bus.new) r members.now }
+    ensures gives { Gives M.Method t (B.Bus.drives bus.old) r members.now p result }
 {
     let n = members.len();
     let home = place::<M>(n, t, p);
@@ -60,7 +60,7 @@ fn settle<B: Bus>(
     tolerance: usize,
 ) -> Result<(), RowFault>
     requires { i < length members.now }
-    ensures { Settled tolerance (drives bus.now) r members.now i result }
+    ensures { Settled tolerance (B.Bus.drives bus.now) r members.now i result }
 {
     if !is_missing(bus, members[i], r) {
         return Ok(());
@@ -82,13 +82,13 @@ fn rewrite<B: Bus, M: Method>(
     blocks: &mut [Block],
     unread: &mut [bool],
 )
-    requires shape { Shape (drives bus.old) r members.now }
+    requires shape { Shape (B.Bus.drives bus.old) r members.now }
     requires size { (M.Method.least ≤ length members.now) × (length members.now ≤ 8) }
     requires user { p < M.Method.width (length members.now) }
     requires blocks { length blocks.old ≡ length members.now }
     requires unread { length unread.old ≡ length members.now }
-    ensures frame { Frame (drives bus.old) (drives bus.new) (Ours members.now) (InRow r members.now) }
-    ensures holds { (us : List (List ℕ)) → Blocks (M.Method.width (length members.now)) us → RowHolds M.Method t (drives bus.old) r members.now us → RowHolds M.Method t (drives bus.new) r members.now (slice_set us p new.now) }
+    ensures frame { Frame (B.Bus.drives bus.old) (B.Bus.drives bus.new) (Ours members.now) (InRow r members.now) }
+    ensures holds { (us : List (List ℕ)) → Blocks (M.Method.width (length members.now)) us → RowHolds M.Method t (B.Bus.drives bus.old) r members.now us → RowHolds M.Method t (B.Bus.drives bus.new) r members.now (slice_set us p new.now) }
 {
     let n = members.len();
     let home = place::<M>(n, t, p);
@@ -114,14 +114,14 @@ fn write_in<B: Bus, M: Method>(
     blocks: &mut [Block],
     unread: &mut [bool],
 ) -> Result<(), RowFault>
-    requires shape { Shape (drives bus.old) r members.now }
+    requires shape { Shape (B.Bus.drives bus.old) r members.now }
     requires size { (M.Method.least ≤ length members.now) × (length members.now ≤ 8) }
     requires user { p < M.Method.width (length members.now) }
     requires blocks { length blocks.old ≡ length members.now }
     requires unread { length unread.old ≡ length members.now }
-    ensures frame { Frame (drives bus.old) (drives bus.new) (Ours members.now) (InRow r members.now) }
-    ensures decided { Decided (M.Method.tolerance (length members.now)) (drives bus.old) (drives bus.new) r members.now (M.Method.home (length members.now) t p) result }
-    ensures changes { Changes M.Method t (drives bus.old) (drives bus.new) r members.now p new.now result }
+    ensures frame { Frame (B.Bus.drives bus.old) (B.Bus.drives bus.new) (Ours members.now) (InRow r members.now) }
+    ensures decided { Decided (M.Method.tolerance (length members.now)) (B.Bus.drives bus.old) (B.Bus.drives bus.new) r members.now (M.Method.home (length members.now) t p) result }
+    ensures changes { Changes M.Method t (B.Bus.drives bus.old) (B.Bus.drives bus.new) r members.now p new.now result }
 {
     let n = members.len();
     let home = place::<M>(n, t, p);
@@ -157,15 +157,15 @@ fn rebuild_in<B: Bus, M: Method>(
     blocks: &mut [Block],
     unread: &mut [bool],
 ) -> Result<(), RowFault>
-    requires shape { Shape (drives bus.old) r members.now }
+    requires shape { Shape (B.Bus.drives bus.old) r members.now }
     requires size { (M.Method.least ≤ length members.now) × (length members.now ≤ 8) }
     requires inside { i < length members.now }
     requires behind { (memberOf members.now i).mark ≤ r }
     requires blocks { length blocks.old ≡ length members.now }
     requires unread { length unread.old ≡ length members.now }
-    ensures frame { Frame (drives bus.old) (drives bus.new) (Ours members.now) (ItsBlock r (memberOf members.now i)) }
-    ensures keeps { Keeps M.Method t (drives bus.old) (drives bus.new) r members.now }
-    ensures rebuilds { Rebuilds M.Method t (drives bus.old) (drives bus.new) r members.now i result }
+    ensures frame { Frame (B.Bus.drives bus.old) (B.Bus.drives bus.new) (Ours members.now) (ItsBlock r (memberOf members.now i)) }
+    ensures keeps { Keeps M.Method t (B.Bus.drives bus.old) (B.Bus.drives bus.new) r members.now }
+    ensures rebuilds { Rebuilds M.Method t (B.Bus.drives bus.old) (B.Bus.drives bus.new) r members.now i result }
 {
     let tolerance = M::tolerance_of(members.len());
     gather(bus, members, r, tolerance, blocks, unread);
@@ -182,14 +182,14 @@ pub(crate) fn read_block<B: Bus, M: Method>(
     r: usize,
     p: usize,
 ) -> Result<Block, RowFault>
-    requires shape { Shape (drives bus.old) r members.now }
+    requires shape { Shape (B.Bus.drives bus.old) r members.now }
     requires size { (M.Method.least ≤ length members.now) × (length members.now ≤ 8) }
     requires user { p < M.Method.width (length members.now) }
-    ensures frame { Frame (drives bus.old) (drives bus.new) (Ours members.now) NoBlock }
-    ensures settled { Settled (M.Method.tolerance (length members.now)) (drives bus.new) r members.now (M.Method.home (length members.now) t p) result }
-    ensures first { HomeFirst (drives bus.old) (drives bus.new) r members.now (M.Method.home (length members.now) t p) }
-    ensures keeps { Keeps M.Method t (drives bus.old) (drives bus.new) r members.now }
-    ensures gives { Gives M.Method t (drives bus.old) r members.now p result }
+    ensures frame { Frame (B.Bus.drives bus.old) (B.Bus.drives bus.new) (Ours members.now) NoBlock }
+    ensures settled { Settled (M.Method.tolerance (length members.now)) (B.Bus.drives bus.new) r members.now (M.Method.home (length members.now) t p) result }
+    ensures first { HomeFirst (B.Bus.drives bus.old) (B.Bus.drives bus.new) r members.now (M.Method.home (length members.now) t p) }
+    ensures keeps { Keeps M.Method t (B.Bus.drives bus.old) (B.Bus.drives bus.new) r members.now }
+    ensures gives { Gives M.Method t (B.Bus.drives bus.old) r members.now p result }
 {
     let n = members.len();
     let mut blocks = [[0; 512]; 8];
@@ -206,12 +206,12 @@ pub(crate) fn write_block<B: Bus, M: Method>(
     p: usize,
     new: &Block,
 ) -> Result<(), RowFault>
-    requires shape { Shape (drives bus.old) r members.now }
+    requires shape { Shape (B.Bus.drives bus.old) r members.now }
     requires size { (M.Method.least ≤ length members.now) × (length members.now ≤ 8) }
     requires user { p < M.Method.width (length members.now) }
-    ensures frame { Frame (drives bus.old) (drives bus.new) (Ours members.now) (InRow r members.now) }
-    ensures decided { Decided (M.Method.tolerance (length members.now)) (drives bus.old) (drives bus.new) r members.now (M.Method.home (length members.now) t p) result }
-    ensures changes { Changes M.Method t (drives bus.old) (drives bus.new) r members.now p new.now result }
+    ensures frame { Frame (B.Bus.drives bus.old) (B.Bus.drives bus.new) (Ours members.now) (InRow r members.now) }
+    ensures decided { Decided (M.Method.tolerance (length members.now)) (B.Bus.drives bus.old) (B.Bus.drives bus.new) r members.now (M.Method.home (length members.now) t p) result }
+    ensures changes { Changes M.Method t (B.Bus.drives bus.old) (B.Bus.drives bus.new) r members.now p new.now result }
 {
     let n = members.len();
     let mut blocks = [[0; 512]; 8];
@@ -236,13 +236,13 @@ pub(crate) fn rebuild_row<B: Bus, M: Method>(
     r: usize,
     i: usize,
 ) -> Result<(), RowFault>
-    requires shape { Shape (drives bus.old) r members.now }
+    requires shape { Shape (B.Bus.drives bus.old) r members.now }
     requires size { (M.Method.least ≤ length members.now) × (length members.now ≤ 8) }
     requires inside { i < length members.now }
     requires behind { (memberOf members.now i).mark ≤ r }
-    ensures frame { Frame (drives bus.old) (drives bus.new) (Ours members.now) (ItsBlock r (memberOf members.now i)) }
-    ensures keeps { Keeps M.Method t (drives bus.old) (drives bus.new) r members.now }
-    ensures rebuilds { Rebuilds M.Method t (drives bus.old) (drives bus.new) r members.now i result }
+    ensures frame { Frame (B.Bus.drives bus.old) (B.Bus.drives bus.new) (Ours members.now) (ItsBlock r (memberOf members.now i)) }
+    ensures keeps { Keeps M.Method t (B.Bus.drives bus.old) (B.Bus.drives bus.new) r members.now }
+    ensures rebuilds { Rebuilds M.Method t (B.Bus.drives bus.old) (B.Bus.drives bus.new) r members.now i result }
 {
     let n = members.len();
     let mut blocks = [[0; 512]; 8];

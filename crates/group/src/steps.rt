@@ -10,8 +10,8 @@ use layout::block::Block;
 
 // Reads the member's block of the row `r`; whether that was done.
 pub(crate) fn fetch<B: Bus>(bus: &mut B, g: Member, r: usize, block: &mut Block) -> bool
-    requires { g.start + r < size (drives bus.old) g.drive }
-    ensures { Fetched (drives bus.old) (drives bus.new) r g block.new result }
+    requires { g.start + r < size (B.Bus.drives bus.old) g.drive }
+    ensures { Fetched (B.Bus.drives bus.old) (B.Bus.drives bus.new) r g block.new result }
 {
     if is_missing(bus, g, r) {
         return false;
@@ -24,8 +24,8 @@ pub(crate) fn fetch<B: Bus>(bus: &mut B, g: Member, r: usize, block: &mut Block)
 
 // Writes the member's block of the row `r`, unless the member is missing.
 pub(crate) fn send<B: Bus>(bus: &mut B, g: Member, r: usize, bytes: &Block)
-    requires { g.start + r < size (drives bus.old) g.drive }
-    ensures { Sent (drives bus.old) (drives bus.new) r g bytes.now }
+    requires { g.start + r < size (B.Bus.drives bus.old) g.drive }
+    ensures { Sent (B.Bus.drives bus.old) (B.Bus.drives bus.new) r g bytes.now }
 {
     if !is_missing(bus, g, r) {
         let _ = bus.write(g.drive, g.start + r, bytes);
@@ -40,8 +40,8 @@ pub(crate) fn store<B: Bus>(
     r: usize,
     bytes: &Block,
 ) -> Result<(), RowFault>
-    requires { g.start + r < size (drives bus.old) g.drive }
-    ensures { Stores (drives bus.old) (drives bus.new) r g i bytes.now result }
+    requires { g.start + r < size (B.Bus.drives bus.old) g.drive }
+    ensures { Stores (B.Bus.drives bus.old) (B.Bus.drives bus.new) r g i bytes.now result }
 {
     bus.write(g.drive, g.start + r, bytes).at_row(i, r)
 }

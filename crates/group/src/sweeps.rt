@@ -12,7 +12,7 @@ use layout::method::Method;
 
 // How many members are missing in the row `r`.
 pub(crate) fn count_missing_members<B: Bus>(bus: &B, members: &[Member], r: usize) -> usize
-    ensures { result ≡ missing_count (missings (drives bus.now) r members.now) }
+    ensures { result ≡ missing_count (missings (B.Bus.drives bus.now) r members.now) }
 {
     let mut c = 0;
     for i in 0..members.len() {
@@ -25,9 +25,9 @@ pub(crate) fn count_missing_members<B: Bus>(bus: &B, members: &[Member], r: usiz
 
 // The first member that is missing in the row `r`, where one is.
 pub(crate) fn first_missing_member<B: Bus>(bus: &B, members: &[Member], r: usize) -> usize
-    requires { 0 < missing_count (missings (drives bus.now) r members.now) }
+    requires { 0 < missing_count (missings (B.Bus.drives bus.now) r members.now) }
     ensures inside { result < length members.now }
-    ensures gone { missing (drives bus.now) r (memberOf members.now result) ≡ true }
+    ensures gone { missing (B.Bus.drives bus.now) r (memberOf members.now result) ≡ true }
 {
     for i in 0..members.len() {
         if is_missing(bus, members[i], r) {
@@ -55,10 +55,10 @@ pub(crate) fn gather<B: Bus>(
     blocks: &mut [Block],
     unread: &mut [bool],
 )
-    requires shape { Shape (drives bus.old) r members.now }
+    requires shape { Shape (B.Bus.drives bus.old) r members.now }
     requires blocks { length blocks.old ≡ length members.now }
     requires unread { length unread.old ≡ length members.now }
-    ensures { Gathered tolerance (drives bus.old) (drives bus.new) r members.now unread.new blocks.new }
+    ensures { Gathered tolerance (B.Bus.drives bus.old) (B.Bus.drives bus.new) r members.now unread.new blocks.new }
 {
     mark_all(unread);
     for i in 0..members.len() {
@@ -88,10 +88,10 @@ pub(crate) fn spread<B: Bus, M: Method>(
     home: usize,
     blocks: &[Block],
 )
-    requires shape { Shape (drives bus.old) r members.now }
+    requires shape { Shape (B.Bus.drives bus.old) r members.now }
     requires blocks { length blocks.now ≡ length members.now }
     requires size { (M.Method.least ≤ length members.now) × (length members.now ≤ 8) }
-    ensures { Spread (concerned (M.Method.check (length members.now) t) home) (drives bus.old) (drives bus.new) r members.now blocks.now }
+    ensures { Spread (concerned (M.Method.check (length members.now) t) home) (B.Bus.drives bus.old) (B.Bus.drives bus.new) r members.now blocks.now }
 {
     let n = members.len();
     for i in 0..n {

@@ -23,7 +23,7 @@ impl Group {
 
     // Whether the row `r` lies on every member's drive.
     fn lies<B: Bus>(&self, bus: &B, r: usize) -> bool
-        ensures { MatchBool result (Lies (drives bus.now) self.now r) (Lies (drives bus.now) self.now r → ⊥) }
+        ensures { MatchBool result (Lies (B.Bus.drives bus.now) self.now r) (Lies (B.Bus.drives bus.now) self.now r → ⊥) }
     {
         for i in 0..self.geometry.members() {
             let size = bus.capacity(self.members[i].drive);
@@ -39,7 +39,7 @@ impl Group {
 
     // The place of protected block `q`, where a buffer of `len` bytes may be moved from or to it.
     fn admit<B: Bus, M: Method>(&self, bus: &B, q: usize, len: usize) -> Result<Place, GroupFault>
-        ensures { Admits M.Method (drives bus.now) self.now q len result }
+        ensures { Admits M.Method (B.Bus.drives bus.now) self.now q len result }
     {
         if self.geometry.members() < M::least_members() {
             return Err(GroupFault::OutOfRule);
@@ -88,7 +88,7 @@ impl Group {
         q: usize,
         buf: &mut [u8],
     ) -> Result<(), GroupFault>
-        ensures { Reads M.Method (drives bus.old) (drives bus.new) self.now q buf.old buf.new result }
+        ensures { Reads M.Method (B.Bus.drives bus.old) (B.Bus.drives bus.new) self.now q buf.old buf.new result }
     {
         let place = self.admit::<B, M>(bus, q, buf.len())?;
         match read_block::<B, M>(bus, self.active(), place.strip, place.row, place.slot) {
@@ -107,7 +107,7 @@ impl Group {
         q: usize,
         bytes: &[u8],
     ) -> Result<(), GroupFault>
-        ensures { Writes M.Method (drives bus.old) (drives bus.new) self.now q bytes.now result }
+        ensures { Writes M.Method (B.Bus.drives bus.old) (B.Bus.drives bus.new) self.now q bytes.now result }
     {
         let place = self.admit::<B, M>(bus, q, bytes.len())?;
         let new = front(bytes);
@@ -119,7 +119,7 @@ impl Group {
 
     // The next row of member `i` that is to be rebuilt.
     fn prepare<B: Bus, M: Method>(&self, bus: &B, i: usize) -> Result<usize, GroupFault>
-        ensures { Prepares M.Method (drives bus.now) self.now i result }
+        ensures { Prepares M.Method (B.Bus.drives bus.now) self.now i result }
     {
         if self.geometry.members() < M::least_members() {
             return Err(GroupFault::OutOfRule);
@@ -140,7 +140,7 @@ impl Group {
 
     /// Rebuilds the next row of member `i`, the one at its mark.
     pub fn rebuild<B: Bus, M: Method>(&self, bus: &mut B, i: usize) -> Result<(), GroupFault>
-        ensures { Rebuilds M.Method (drives bus.old) (drives bus.new) self.now i result }
+        ensures { Rebuilds M.Method (B.Bus.drives bus.old) (B.Bus.drives bus.new) self.now i result }
     {
         let r = self.prepare::<B, M>(bus, i)?;
         let t = self.geometry.strip_of(r);

@@ -56,7 +56,7 @@ mod tests {
         add_bytes(b"508*a5", 512, &mut bytes)?;
         let mut text = Vec::new(rt.alloc());
         show_bytes(bytes.as_slice(), &mut text)?;
-        assert!(rt; text.as_slice() == b"2*00 1*10 509*a5");
+        assert!(rt; text.as_slice() == b"2*00 1*10 509*a5".as_slice());
         Ok(())
     }
 }

@@ -4,8 +4,8 @@ use Rattle.array.specs.Places.{blocks_in}
 use Rattle.array.proofs.Walking.{blocks_drop}
 use Rattle.array.proofs.spots.count_blocks.Goals as goal
 
-pub overflow-add-sum : goal.overflow-add-sum
-overflow-add-sum c = omega (arith, blocks_drop c.args.runs.now c.loop-run.run_index (omega arith), c.loop-run.invariant)
+pub overflow_add-sum : goal.overflow_add-sum
+overflow_add-sum c = omega (arith, blocks_drop c.args.runs.now c.loop-run.run_index (omega arith), c.loop-run.invariant)
 
 pub loop-run-preserved : goal.loop-run-preserved
 loop-run-preserved c = omega (arith, blocks_drop c.args.runs.now c.loop-run.run_index (omega arith), c.loop-run.invariant)

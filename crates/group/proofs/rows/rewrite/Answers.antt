@@ -1,14 +1,13 @@
-use Rattle.std.proofs.Common.{◌≡◌, ℕ, ◌<◌, ◌≤◌, Bool, true, false, List, [], length, get_or, set, sym, refl, ap, ◌∙◌, subst, arith}
-use Rattle.bus.specs.Drives.{Drive}
+use Rattle.std.proofs.Common.{◌≡◌, ℕ, ◌<◌, ◌≤◌, List, length, set, subst, arith}
 use Rattle.layout.specs.Blocks.{missing_count, Whole}
-use Rattle.group.specs.Group.{member, missing, RowLost, Shape, Frame, Ours, InRow, NoBlock, Its, ItsBlock}
+use Rattle.group.specs.Group.{member, RowLost, Ours, InRow, NoBlock, Its, ItsBlock}
 use Rattle.group.specs.Sweeps.{Gathered}
 use Rattle.group.proofs.Frames.{one_member, frame_trans, frame_wider}
 use Rattle.group.proofs.Holding.{shape_still, lost_since, holds_read, agrees, at_length, holds_sent, holds_spread}
 use Rattle.group.proofs.rows.rewrite.Goals as goal
 
-pub returns-then-count-missing-tolerance : goal.returns-then-count-missing-tolerance
-returns-then-count-missing-tolerance g c =
+pub returns-then-count_missing-tolerance : goal.returns-then-count_missing-tolerance
+returns-then-count_missing-tolerance g c =
     let k = g.M.Method in
     let s = g.met.M.Method.sound in
     let gs = c.args.members.now in
@@ -20,8 +19,8 @@ returns-then-count-missing-tolerance g c =
     let n = g.B.Bus.drives c.send.new.bus in
     let i = c.place-home.result in
     let inside : i < length gs = omega (arith, c.place-home.ensures, s.inside (length gs) t p (one_member k s c.requires.size.0) c.requires.size.1 c.requires.user) in
-    let gone = lost_since c.tolerance-of-tolerance.result m a r gs c.gather.new.unread c.gather.new.blocks c.gather.ensures (omega (arith, c.if-count-missing-tolerance.true, c.count-missing.ensures)) in
-    let lost-row : RowLost (k.tolerance (length gs)) a r gs = omega (arith, gone, c.tolerance-of-tolerance.ensures) in
+    let gone = lost_since c.tolerance_of-tolerance.result m a r gs c.gather.new.unread c.gather.new.blocks c.gather.ensures (omega (arith, c.if-count_missing-tolerance.true, c.count_missing.ensures)) in
+    let lost-row : RowLost (k.tolerance (length gs)) a r gs = omega (arith, gone, c.tolerance_of-tolerance.ensures) in
     record {
       frame = frame_trans m a n (Ours gs) (InRow r gs)
           (frame_wider m a (Ours gs) (Ours gs) NoBlock (InRow r gs) (λ d x. x) (λ d b x. absurd x) c.gather.ensures.frame)
@@ -32,8 +31,8 @@ returns-then-count-missing-tolerance g c =
           (holds_read k t r gs m a us c.gather.ensures.frame h) lost-row c.send.ensures;
     }
 
-pub returns-else-count-missing-tolerance : goal.returns-else-count-missing-tolerance
-returns-else-count-missing-tolerance g c =
+pub returns-else-count_missing-tolerance : goal.returns-else-count_missing-tolerance
+returns-else-count_missing-tolerance g c =
     let k = g.M.Method in
     let s = g.met.M.Method.sound in
     let gs = c.args.members.now in
@@ -47,11 +46,11 @@ returns-else-count-missing-tolerance g c =
     let i = c.place-home.result in
     let o = c.gather.new.unread in
     let bs = c.gather.new.blocks in
-    let cs = c.write-user.new.blocks in
-    let got : Gathered (k.tolerance (length gs)) m a r gs o bs = subst (λ (st : ℕ). Gathered st m a r gs o bs) c.tolerance-of-tolerance.ensures c.gather.ensures in
-    let few : missing_count o ≤ k.tolerance (length gs) = omega (arith, c.if-count-missing-tolerance.false, c.count-missing.ensures, c.tolerance-of-tolerance.ensures) in
+    let cs = c.write_user.new.blocks in
+    let got : Gathered (k.tolerance (length gs)) m a r gs o bs = subst (λ (st : ℕ). Gathered st m a r gs o bs) c.tolerance_of-tolerance.ensures c.gather.ensures in
+    let few : missing_count o ≤ k.tolerance (length gs) = omega (arith, c.if-count_missing-tolerance.false, c.count_missing.ensures, c.tolerance_of-tolerance.ensures) in
     let long : length bs ≡ length gs = omega (arith, c.gather.auto.blocks, c.requires.blocks) in
-    let w : Whole new = record { long = c.told-new; bytes = c.bytes-fit.ensures } in
+    let w : Whole new = record { long = c.told-new; bytes = c.bytes_fit.ensures } in
     record {
       frame = frame_trans m a n (Ours gs) (InRow r gs)
           (frame_wider m a (Ours gs) (Ours gs) NoBlock (InRow r gs) (λ d x. x) (λ d b x. absurd x) c.gather.ensures.frame)
@@ -59,6 +58,6 @@ returns-else-count-missing-tolerance g c =
       holds = λ us u h.
           holds_spread k t r gs s c.requires.size.0 c.requires.size.1 p c.requires.user us u new a n cs i c.place-home.ensures w
           (holds_read k t r gs m a us c.gather.ensures.frame h)
-          (at_length k t r gs (λ (l : ℕ) (vs : List (List ℕ)). cs ≡ k.row l t (set vs p new)) o bs (length bs) long c.write-user.ensures us u (agrees k t r gs m a us o bs got few long h))
+          (at_length k t r gs (λ (l : ℕ) (vs : List (List ℕ)). cs ≡ k.row l t (set vs p new)) o bs (length bs) long c.write_user.ensures us u (agrees k t r gs m a us o bs got few long h))
           c.spread.ensures;
     }

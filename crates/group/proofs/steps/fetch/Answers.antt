@@ -1,10 +1,10 @@
-use Rattle.std.proofs.Common.{length, arith}
+use Rattle.std.proofs.Common.{arith}
 use Rattle.bus.proofs.Changing.{there_by_size}
 use Rattle.group.proofs.Frames.{placed_by, fetch_failed}
 use Rattle.group.proofs.steps.fetch.Goals as goal
 
-pub overflow-add-g : goal.overflow-add-g
-overflow-add-g g c =
+pub overflow_add-g : goal.overflow_add-g
+overflow_add-g g c =
     let m = g.B.Bus.drives c.args.bus.now in
     let d = c.args.g.drive in
     omega (arith, c.requires, (g.B.Bus.sound c.args.bus.now).small d (there_by_size m d _ c.requires))

@@ -1,4 +1,4 @@
-use Rattle.std.proofs.Common.{◌<◌, true, ◌≢◌, length, get_or, ⊎_elim, arith, below_none, below_more}
+use Rattle.std.proofs.Common.{true, ◌≢◌, length, ⊎_elim, arith, below_more}
 use Rattle.std.proofs.lemmas.List.{get_or-set_same, get_or-set_other, get_or_past}
 use Rattle.std.proofs.lemmas.Bool.{cases_lt}
 use Rattle.group.proofs.sweeps.mark_all.Goals as goal

@@ -7,8 +7,8 @@ use Rattle.array.specs.Kinds.{method}
 use Rattle.array.proofs.Placing.{size_is, home_is, row_is, block_fits}
 use Rattle.array.proofs.slot.GroupSlot.home_block.Goals as goal
 
-pub overflow-add-result : goal.overflow-add-result
-overflow-add-result c =
+pub overflow_add-result : goal.overflow_add-result
+overflow_add-result c =
     let s = c.args.self.now in
     let i = c.in-Ok.place.member in
     let at = subst (λ (g : Geometry). PlaceOf (method s.kind) g.members g.depth g.rows c.args.q c.in-Ok.place) c.geometry.ensures c.in-Ok.ensures.1 in

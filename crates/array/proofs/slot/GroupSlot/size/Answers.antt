@@ -8,4 +8,4 @@ use Rattle.array.proofs.slot.GroupSlot.size.Goals as goal
 pub returns : goal.returns
 returns c =
     let s = c.args.self.now in
-    c.protected-blocks.ensures ∙ ap (λ (g : Geometry). protected (method s.kind) g.members g.rows) c.geometry.ensures ∙ sym (size_is s)
+    c.protected_blocks.ensures ∙ ap (λ (g : Geometry). protected (method s.kind) g.members g.rows) c.geometry.ensures ∙ sym (size_is s)

@@ -10,11 +10,11 @@ unreachable-requires c = c.in-None.ensures (c.requires c.loop-i.i c.loop-i-test.
 pub loop-i-preserved : goal.loop-i-preserved
 loop-i-preserved c =
     below_more _ _ c.loop-i.invariant
-    (subst (λ (e : ExtentRow). Unassigned (config c.args.self.now) e) c.in-Some.ensures.1 c.if-not-is-unassigned.ensures)
+    (subst (λ (e : ExtentRow). Unassigned (config c.args.self.now) e) c.in-Some.ensures.1 c.if-not-is_unassigned.ensures)
 
-pub returns-then-not-is-unassigned : goal.returns-then-not-is-unassigned
-returns-then-not-is-unassigned c = λ all.
-    c.if-not-is-unassigned.ensures
+pub returns-then-not-is_unassigned : goal.returns-then-not-is_unassigned
+returns-then-not-is_unassigned c = λ all.
+    c.if-not-is_unassigned.ensures
     (subst (λ (e : ExtentRow). Unassigned (config c.args.self.now) e) (sym c.in-Some.ensures.1) (all c.loop-i.i c.loop-i-test.true))
 
 pub returns : goal.returns

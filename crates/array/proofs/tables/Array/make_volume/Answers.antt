@@ -6,25 +6,25 @@ use Rattle.array.specs.Configuration.{VolumeConfig, with_volume, new_volume}
 use Rattle.array.proofs.Keeping.{kept_of, volume_set, volume_made, fields_by}
 use Rattle.array.proofs.tables.Array.make_volume.Goals as goal
 
-pub returns-in-err-check-volume : goal.returns-in-err-check-volume
-returns-in-err-check-volume c =
-    let p = err_from_is_err_and c.from-residual.result c.from-residual.ensures.1 in
-    let no = c.in-err-check-volume.ensures in
+pub returns-in_err-check_volume : goal.returns-in_err-check_volume
+returns-in_err-check_volume c =
+    let p = err_from_is_err_and c.from_residual.result c.from_residual.ensures.1 in
+    let no = c.in_err-check_volume.ensures in
     rw (p.1, p.2) (no.0, no.1, refl)
 
-pub invariant-of-self : goal.invariant-of-self
-invariant-of-self c =
+pub invariant_of-self : goal.invariant_of-self
+invariant_of-self c =
     let a = c.args.self.now in
     let v = c.args.v in
     let rs = c.args.runs.now in
-    let ok = c.in-ok-check-volume.ensures.0 in
+    let ok = c.in_ok-check_volume.ensures.0 in
     fields_by _ _ (with_volume (config a) v (new_volume rs)) a.eight (length-set a.volumes v _ ∙ a.sixteen) a.numbered
-    (volume_set a.groups a.volumes v (Some c.volume-on.result) ∙ ap (λ (x : VolumeConfig). with_volume (config a) v (Some x)) c.volume-on.ensures)
+    (volume_set a.groups a.volumes v (Some c.volume_on.result) ∙ ap (λ (x : VolumeConfig). with_volume (config a) v (Some x)) c.volume_on.ensures)
     (volume_made (config a) v rs ok.1.0.1 ok.0.2 ok.1.0.0 ok.1.1.0 ok.1.1.1.0.0 ok.1.1.1.0.1 (kept_of a))
 
 pub returns : goal.returns
 returns c = (
-  c.in-ok-check-volume.ensures.0,
-  volume_set c.args.self.now.groups c.args.self.now.volumes c.args.v (Some c.volume-on.result)
-      ∙ ap (λ (x : VolumeConfig). with_volume (config c.args.self.now) c.args.v (Some x)) c.volume-on.ensures,
+  c.in_ok-check_volume.ensures.0,
+  volume_set c.args.self.now.groups c.args.self.now.volumes c.args.v (Some c.volume_on.result)
+      ∙ ap (λ (x : VolumeConfig). with_volume (config c.args.self.now) c.args.v (Some x)) c.volume_on.ensures,
 )
