@@ -11,7 +11,7 @@ use Rattle.layout.specs.declared.refusal.Refusal.TheVariants.{OutOfRule, Outside
 use Rattle.layout.specs.Extents.{Sound}
 use Rattle.layout.specs.Refusals.{AnsweredBoth}
 use Rattle.group.specs.declared.member.Member.{Member}
-use Rattle.group.specs.Group.{nobody, member}
+use Rattle.group.specs.Group.{nobody}
 use Rattle.group.specs.Filling.{no_extent, extent}
 use Rattle.group.specs.Making.{Fits, MadeTo, whole_member}
 use Rattle.group.specs.Record.{members_of}

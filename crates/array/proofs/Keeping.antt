@@ -1,5 +1,5 @@
 -- What holds of the tables, kept by a change that leaves no run and no group that was not there, and by a new volume set.
-use Rattle.std.proofs.Common.{◌≡◌, ℕ, ◌+◌, ◌<◌, ◌≤◌, false, ◌⊎◌, List, map, length, get_or, set, replicate, None, Option, sym, refl, ap, ◌∙◌, subst, inl, inr, ⊎_elim, arith}
+use Rattle.std.proofs.Common.{◌≡◌, ℕ, ◌+◌, ◌<◌, ◌≤◌, ◌⊎◌, List, map, length, get_or, set, replicate, None, Option, sym, refl, ap, ◌∙◌, subst, inl, inr, ⊎_elim, arith}
 use Rattle.std.proofs.lemmas.List.{map-set, get_or-set_same, get_or-set_other, length-replicate, get_or-replicate}
 use Rattle.std.proofs.lemmas.Bool.{false≢true, cases_eq, cases_order}
 use Rattle.array.specs.declared.slot.GroupSlot.{GroupSlot}
@@ -227,10 +227,28 @@ numbered_cleared gs g h n x =
 -- the ghost fields of an array with these tables
 abbrev pub Fields : List (Option GroupSlot) → List (Option Volume) → Type 0
 Fields gs vs =
-    (length gs ≡ 8) × ((length vs ≡ 16) × (Numbered gs × (ExtentsApart (configuration gs vs) × (RunsFilled (configuration gs vs) × (RunsGrouped (configuration gs vs) × (RunsInside (configuration gs vs) × (RunsApart (configuration gs vs) × Unit {0})))))))
+    record {
+      eight : length gs ≡ 8;
+      sixteen : length vs ≡ 16;
+      numbered : Numbered gs;
+      extents : ExtentsApart (configuration gs vs);
+      filled : RunsFilled (configuration gs vs);
+      grouped : RunsGrouped (configuration gs vs);
+      inside : RunsInside (configuration gs vs);
+      runs : RunsApart (configuration gs vs);
+    }
 
 pub fields : (gs : List (Option GroupSlot)) (vs : List (Option Volume)) → length gs ≡ 8 → length vs ≡ 16 → Numbered gs → Kept (configuration gs vs) → Fields gs vs
-fields gs vs l w n k = (l, (w, (n, (k.extents, (k.filled, (k.grouped, (k.inside, (k.runs, tt))))))))
+fields gs vs l w n k = record {
+  eight = l;
+  sixteen = w;
+  numbered = n;
+  extents = k.extents;
+  filled = k.filled;
+  grouped = k.grouped;
+  inside = k.inside;
+  runs = k.runs;
+}
 
 -- by how the configuration comes from another
 pub fields_by : (gs : List (Option GroupSlot)) (vs : List (Option Volume)) (d : Configuration) → length gs ≡ 8 → length vs ≡ 16 → Numbered gs → configuration gs vs ≡ d → Kept d → Fields gs vs

@@ -1,5 +1,5 @@
 -- What is configured: groups and volume sets, by number. Assumes nothing.
-use Rattle.std.specs.Prelude.{◌≡◌, ℕ, ◌+◌, ◌<◌, ◌≤◌, Bool, true, false, List, [], map, length, take, set, replicate, Some, None, Option, slice_index_or, slice_set}
+use Rattle.std.specs.Prelude.{◌≡◌, ℕ, ◌+◌, ◌<◌, ◌≤◌, Bool, true, false, List, [], map, length, take, replicate, Some, None, Option, slice_index_or, slice_set}
 use Rattle.layout.specs.declared.extent.ExtentRow.{ExtentRow}
 use Rattle.layout.specs.Extents.{Overlap}
 use Rattle.group.specs.declared.member.Member.{Member}

@@ -7,7 +7,7 @@ use Rattle.array.proofs.spots.find_spot.Goals as goal
 pub returns-then-left-run : goal.returns-then-left-run
 returns-then-left-run c =
     let rs = c.args.runs.now in
-    let i = c.loop-run.run_index in
+    let i = c.loop-run.run-index in
     let h : i < length rs = omega arith in
     let is = c.loop-run.invariant.1 ∙ spot_here rs i h c.loop-run.left (omega arith) in
     record {
@@ -19,9 +19,9 @@ returns-then-left-run c =
 pub loop-run-preserved : goal.loop-run-preserved
 loop-run-preserved c =
     let rs = c.args.runs.now in
-    let i = c.loop-run.run_index in
+    let i = c.loop-run.run-index in
     let h : i < length rs = omega arith in
     (omega (arith, blocks_drop rs i h, c.loop-run.invariant.0), c.loop-run.invariant.1 ∙ spot_past rs i h c.loop-run.left (omega arith))
 
 pub returns : goal.returns
-returns c = omega (arith, at_drop_all blocks_in c.args.runs.now c.loop-run.run_index (omega arith), c.loop-run.invariant.0)
+returns c = omega (arith, at_drop_all blocks_in c.args.runs.now c.loop-run.run-index (omega arith), c.loop-run.invariant.0)
