@@ -1,24 +1,22 @@
 -- From the law of a log to the last write. Assumes nothing.
-use Rattle.std.proofs.Common.{◌≡◌, ℕ, ◌+◌, ◌<◌, ◌≤◌, Bool, true, false, cond, ◌&&◌, eqb, ◌⊎◌, List, [], ◌∷◌, ◌++◌, map, length, take, drop, replicate, sym, refl, ap, ◌∙◌, subst, inl, inr, ⊎_elim, append_assoc, append-nil, arith, length-take, take_all}
-use lib.ListN.{length-replicate}
+use Rattle.std.proofs.Common.{◌≡◌, ℕ, ◌≤◌, Bool, true, false, cond, ◌&&◌, eqb, ◌⊎◌, List, [], ◌∷◌, ◌++◌, map, length, take, drop, sym, refl, ap, ◌∙◌, subst, inl, inr, ⊎_elim, append_assoc, append-nil, arith, length-take, take_all}
 use lib.Seq.{take-append-le}
-use Rattle.std.proofs.lemmas.Bool.{cases_eq, eq-eqb, ne_eqb, cases_Bool, true≢false, false≢true, cases_lt, both_ways}
+use Rattle.std.proofs.lemmas.Bool.{cases_eq, eq-eqb, ne_eqb, cases_Bool, false≢true, cases_lt, both_ways}
 use Rattle.group.specs.Filling.{zeros}
-use Rattle.array.specs.declared.refusal.Refusal.TheVariants.{LostReading}
 use Rattle.layout.specs.Blocks.{missing_count}
 use Rattle.group.specs.Group.{member}
 use Rattle.array.specs.Configuration.{Configuration, group_at}
 use Rattle.array.specs.Places.{Spot, spot_of, LostAt, missing, row_of, home_of, tolerance_of}
-use Rattle.array.specs.Checks.{Check, AllHold, FirstNo, read_checks, write_checks, block_checks}
+use Rattle.array.specs.Checks.{Check, AllHold, read_checks, write_checks, block_checks}
 use Rattle.controller.specs.declared.calls.Call.{Call}
 use Rattle.controller.specs.declared.calls.Call.TheVariants.{MakeGroup, DeleteGroup, MakeVolume, DeleteVolume, WriteControl, Size, Map, Read, Write}
 use Rattle.controller.specs.declared.calls.Value.{Value}
 use Rattle.controller.specs.declared.calls.Value.TheVariants.{Done}
 use Rattle.controller.specs.declared.calls.Answer.{Answer}
 use Rattle.controller.specs.declared.calls.Answer.TheVariants.{Accepted, Refused}
-use Rattle.controller.specs.State.{Entry, State, start, after, after_answer, after_all, state_of, put, put_all, entered}
-use Rattle.controller.specs.Right.{Answers, Right, RightFor, over, scene_at}
-use Rattle.controller.specs.Law.{Lawful, Law, ReadAt, WroteAt, Makes, Made, Untouched, LastWrite, FirstZeros, LostExactly, accepted, refused_as_lost}
+use Rattle.controller.specs.State.{Entry, State, after_answer, state_of, put, entered}
+use Rattle.controller.specs.Right.{Answers, RightFor, over, scene_at}
+use Rattle.controller.specs.Law.{Law, ReadAt, WroteAt, Makes, Made, Untouched, LastWrite, FirstZeros, LostExactly, accepted, refused_as_lost}
 use Rattle.controller.proofs.Zeros.{zero_whole}
 use Rattle.controller.proofs.Keeping.{state_snoc}
 

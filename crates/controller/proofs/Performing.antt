@@ -1,33 +1,30 @@
 -- Each call, by what the array answers to it. Assumes nothing.
-use Rattle.std.proofs.Common.{◌≡◌, ℕ, ◌+◌, ◌<◌, ◌≤◌, Bool, true, false, ◌⊎◌, List, [], ◌∷◌, ◌++◌, length, get_or, take, drop, Some, None, Ok, Err, Option, Result, sym, refl, ap, ◌∙◌, subst, inl, inr, ⊎_elim, arith, length-take, Bor}
+use Rattle.std.proofs.Common.{◌≡◌, ℕ, ◌<◌, ◌≤◌, Bool, true, false, List, length, get_or, take, Some, None, Ok, Err, Option, Result, sym, refl, ap, ◌∙◌, subst, ⊎_elim, arith, length-take, Bor}
 use Rattle.std.proofs.lemmas.List.{get_or-take, get_or_past}
-use Rattle.std.proofs.lemmas.Bool.{both_ways, false≢true, cases_lt}
-use Rattle.bus.specs.Drives.{Drive, at, size}
+use Rattle.std.proofs.lemmas.Bool.{both_ways, cases_lt}
+use Rattle.bus.specs.Drives.{Drive, at}
 use Rattle.layout.specs.Blocks.{Whole}
 use Rattle.layout.specs.declared.extent.ExtentRow.{ExtentRow}
-use Rattle.group.specs.Group.{Frame, NoBlock}
 use Rattle.array.specs.declared.asking.DrivePlace.{DrivePlace}
 use Rattle.array.specs.declared.volume.Run.{Run}
 use Rattle.array.specs.declared.refusal.Fault.{Fault}
 use Rattle.array.specs.declared.refusal.Fault.TheVariants.{OfRow, OfBlock}
 use Rattle.array.specs.declared.refusal.Refused.{Refused as TheRefused}
 use Rattle.array.specs.Refusals.{of_drives}
-use Rattle.array.specs.Configuration.{Configuration, is_some, with_group, with_volume, new_volume, controlled, group_at}
+use Rattle.array.specs.Configuration.{Configuration, is_some, with_group, with_volume, new_volume, controlled}
 use Rattle.array.specs.Places.{spot_of, blocks_of, mapped, LostRowAt}
 use Rattle.array.specs.Tables.{SoundConfig}
-use Rattle.array.specs.Checks.{AllHold, FirstNo, scene, group_checks, delete_group_checks, volume_checks, delete_volume_checks, control_checks, size_checks, map_checks, read_checks, write_checks}
+use Rattle.array.specs.Checks.{FirstNo, scene, group_checks, delete_group_checks, volume_checks, delete_volume_checks, control_checks, size_checks, map_checks, read_checks, write_checks}
 use Rattle.array.specs.Calls.{OnDrives, Asked, Configures, Blamed, MakesGroup, Unfilled, ReadsBlock, NotGiven, WritesBlock, NotTaken}
 use Rattle.controller.specs.declared.calls.Call.{Call}
 use Rattle.controller.specs.declared.calls.Call.TheVariants.{MakeGroup, DeleteGroup, MakeVolume, DeleteVolume, WriteControl, Size, Map, Read, Write}
-use Rattle.controller.specs.declared.calls.Value.{Value}
 use Rattle.controller.specs.declared.calls.Value.TheVariants.{Done, Blocks, At}
-use Rattle.controller.specs.declared.calls.Answer.{Answer}
 use Rattle.controller.specs.declared.calls.Answer.TheVariants.{Accepted, Refused}
-use Rattle.controller.specs.State.{Entry, State}
+use Rattle.controller.specs.State.{State}
 use Rattle.controller.specs.Steps.{answer_by, answered}
-use Rattle.controller.specs.Right.{Names, NamesExtent, NamesMember, scene_at}
+use Rattle.controller.specs.Right.{NamesExtent, NamesMember}
 use Rattle.controller.specs.Law.{Held, WholeContents, entry}
-use Rattle.controller.proofs.Stepping.{Stepped, still, plain_blamed, asked_answers, configures_answers}
+use Rattle.controller.proofs.Stepping.{Stepped, still, plain_blamed}
 use Rattle.controller.proofs.Keeping.{lies_frame, held_frame}
 use Rattle.controller.proofs.Making.{held_deleted, whole_deleted, lies_deleted, held_make, whole_make, lies_make, held_unfilled, unassigned_by, passed}
 use Rattle.controller.proofs.Spots.{spot_inside}

@@ -1,5 +1,5 @@
 -- From one request to the next, and from the last to the law of the run. Assumes nothing.
-use Rattle.std.proofs.Common.{◌≡◌, ℕ, ◌+◌, ◌<◌, ◌≤◌, Bool, true, List, [], ◌∷◌, ◌++◌, map, length, get_or, take, sym, refl, ap, ◌∙◌, subst, take_all}
+use Rattle.std.proofs.Common.{◌≡◌, ℕ, ◌+◌, ◌<◌, ◌≤◌, Bool, true, List, [], ◌∷◌, ◌++◌, map, length, get_or, take, sym, ap, ◌∙◌, subst, take_all}
 use mathlib.Core.Path.{fun_ext}
 use Rattle.std.proofs.lemmas.List.{take_more, map-append}
 use Rattle.bus.specs.Drives.{Drive, Worse, at, size}
@@ -12,7 +12,7 @@ use Rattle.controller.specs.declared.log.Request.{Request}
 use Rattle.controller.specs.declared.log.Event.{Event}
 use Rattle.controller.specs.State.{Entry}
 use Rattle.controller.specs.Law.{Reached, begun, waited, called, Step, Promise, Goes, entry}
-use Rattle.controller.specs.Runs.{entry_of, Question, asked, logged, Turned, Ran}
+use Rattle.controller.specs.Runs.{entry_of, Question, asked, logged, Ran}
 use Rattle.controller.proofs.Traces.{reached_kept, law_of}
 use Rattle.controller.proofs.Lasting.{last_write, first_zeros, lost_exactly}
 

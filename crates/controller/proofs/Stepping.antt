@@ -1,6 +1,5 @@
 -- From what an array's call answers to the law of one call. Assumes nothing.
-use Rattle.std.proofs.Common.{◌≡◌, ℕ, ◌+◌, ◌<◌, ◌≤◌, Bool, true, false, ◌⊎◌, List, [], ◌∷◌, ◌++◌, length, get_or, take, drop, Some, None, Ok, Err, Option, Result, sym, refl, ap, ◌∙◌, subst, inl, inr, ⊎_elim, arith}
-use Rattle.std.proofs.lemmas.Bool.{both_ways, false≢true}
+use Rattle.std.proofs.Common.{◌≡◌, ℕ, true, false, List, [], ◌∷◌, ◌++◌, length, None, Ok, Err, Result, sym, refl, ap, ◌∙◌, subst, ⊎_elim}
 use Rattle.bus.specs.Drives.{Drive, at, size}
 use Rattle.array.specs.declared.tables.Array.{Array}
 use Rattle.array.specs.declared.refusal.Refusal.{Refusal}
@@ -9,19 +8,17 @@ use Rattle.array.specs.Arrays.{config}
 use Rattle.array.specs.Refusals.{of_drives}
 use Rattle.array.specs.Configuration.{Configuration, is_some}
 use Rattle.array.specs.Tables.{SoundConfig}
-use Rattle.array.specs.Checks.{Check, AllHold, FirstNo}
+use Rattle.array.specs.Checks.{Check, FirstNo}
 use Rattle.array.specs.Calls.{OnDrives, Asked, Configures, Blamed}
 use Rattle.array.proofs.Soundness.{sound_array}
 use Rattle.controller.specs.declared.calls.Call.{Call}
-use Rattle.controller.specs.declared.calls.Call.TheVariants.{MakeGroup, DeleteGroup, MakeVolume, DeleteVolume, WriteControl, Size, Map, Read, Write}
 use Rattle.controller.specs.declared.calls.Value.{Value}
 use Rattle.controller.specs.declared.calls.Value.TheVariants.{Done}
 use Rattle.controller.specs.declared.calls.Answer.{Answer}
-use Rattle.controller.specs.declared.calls.Answer.TheVariants.{Accepted, Refused}
-use Rattle.controller.specs.State.{Entry, State, state_of, after, after_answer, configured, entered}
+use Rattle.controller.specs.State.{Entry, State, state_of, after, after_answer}
 use Rattle.controller.specs.Steps.{answer_by, answered}
-use Rattle.controller.specs.Right.{Answers, Right, Blames, Names, scene_at, over}
-use Rattle.controller.specs.Law.{Apart, Lawful, Held, WholeContents, Kept, Tries, Spared, Performed, Step, entry}
+use Rattle.controller.specs.Right.{Answers, Right, Blames}
+use Rattle.controller.specs.Law.{Held, WholeContents, Kept, Spared, Performed, entry}
 use Rattle.controller.proofs.Keeping.{state_snoc}
 use Rattle.controller.proofs.Apartness.{apart_by}
 

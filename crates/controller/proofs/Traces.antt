@@ -1,15 +1,15 @@
 -- From one call to whole runs. Assumes nothing.
-use Rattle.std.proofs.Common.{◌≡◌, ℕ, suc, ◌+◌, ◌<◌, ◌≤◌, ◌⊎◌, List, [], ◌∷◌, ◌++◌, length, sym, refl, ap, ◌∙◌, subst, inl, inr, ⊎_elim, append_assoc, append-nil, arith, length-append}
+use Rattle.std.proofs.Common.{◌≡◌, ℕ, suc, ◌+◌, ◌⊎◌, List, [], ◌∷◌, ◌++◌, length, refl, ap, ◌∙◌, subst, inl, inr, ⊎_elim, arith, length-append}
 use mathlib.Core.Path.{fun_ext}
-use Rattle.bus.specs.Drives.{Drive, Worse, at, size}
+use Rattle.bus.specs.Drives.{Drive, Worse, size}
 use Rattle.array.specs.declared.tables.Array.{Array}
 use Rattle.array.specs.Arrays.{config}
 use Rattle.array.specs.Configuration.{GroupConfig, nothing}
 use Rattle.array.specs.Tables.{SoundConfig}
 use Rattle.array.proofs.Soundness.{sound_array}
 use Rattle.array.proofs.Keeping.{all_none}
-use Rattle.controller.specs.State.{Entry, State, start, state_of}
-use Rattle.controller.specs.Law.{Lawful, Law, Kept, Performed, Reached, begun, waited, called}
+use Rattle.controller.specs.State.{Entry, state_of}
+use Rattle.controller.specs.Law.{Lawful, Law, Kept, Reached, begun, waited, called}
 use Rattle.controller.proofs.Keeping.{held_worse, lies_worse}
 
 pub kept_new : (a : Array) (m : List Drive) → config a ≡ nothing → Kept [] a m

@@ -15,7 +15,6 @@ use Rattle.controller.specs.State.{State, users, put}
 use Rattle.controller.specs.Right.{over}
 use Rattle.controller.specs.Law.{Held, WholeContents}
 use Rattle.controller.proofs.Keeping.{row_frame}
-use Rattle.array.proofs.Soundness.{method_sound}
 
 -- row and slot of a protected block, and the block at a slot of a row
 module _ (g : GroupConfig) (s : SoundGroup g) where

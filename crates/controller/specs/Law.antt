@@ -1,6 +1,6 @@
 -- THE LAW of a log that began with a new array, and of one call on an array in use. Assumes nothing.
-use Rattle.std.specs.Prelude.{◌≡◌, ℕ, ◌+◌, ◌<◌, ◌≤◌, Bool, true, false, List, [], ◌∷◌, ◌++◌, length, get_or, take, Some, None, Option}
-use Rattle.bus.specs.Drives.{Drive, Worse, at, size, block}
+use Rattle.std.specs.Prelude.{◌≡◌, ℕ, ◌<◌, Bool, true, false, List, [], ◌∷◌, ◌++◌, length, take}
+use Rattle.bus.specs.Drives.{Drive, Worse, at, size}
 use Rattle.layout.specs.Blocks.{Whole}
 use Rattle.group.specs.Filling.{zeros}
 use Rattle.array.specs.declared.tables.Array.{Array}
@@ -8,13 +8,12 @@ use Rattle.array.specs.declared.refusal.Refusal.TheVariants.{LostReading}
 use Rattle.array.specs.Refusals.{of_drives}
 use Rattle.array.specs.Arrays.{config}
 use Rattle.array.specs.Configuration.{Configuration, Configured, nothing, group_at}
-use Rattle.array.specs.Places.{Spot, DriveBlock, mapped, blocks_of, spot_of, size_of, LostAt, LostRowAt}
+use Rattle.array.specs.Places.{Spot, mapped, blocks_of, spot_of, size_of, LostAt, LostRowAt}
 use Rattle.array.specs.Tables.{ExtentsApart}
 use Rattle.array.specs.Checks.{AllHold, block_checks}
 use Rattle.array.specs.Calls.{OnDrives, Holds}
 use Rattle.controller.specs.declared.calls.Call.{Call}
 use Rattle.controller.specs.declared.calls.Call.TheVariants.{MakeGroup, DeleteGroup, MakeVolume, DeleteVolume, WriteControl, Size, Map, Read, Write}
-use Rattle.controller.specs.declared.calls.Value.TheVariants.{Done}
 use Rattle.controller.specs.declared.calls.Answer.{Answer}
 use Rattle.controller.specs.declared.calls.Answer.TheVariants.{Accepted, Refused}
 use Rattle.controller.specs.State.{Entry, State, state_of, users}

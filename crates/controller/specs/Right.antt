@@ -1,11 +1,11 @@
 -- The rules of one call: which answers are right. Assumes nothing.
-use Rattle.std.specs.Prelude.{◌≡◌, ℕ, ◌+◌, ◌<◌, ◌≤◌, Bool, true, false, List, [], ◌∷◌, ◌++◌, length, drop, Some, None, Option}
+use Rattle.std.specs.Prelude.{◌≡◌, ℕ, ◌+◌, ◌<◌, true, List, [], ◌++◌, length, drop, Some, None, Option}
 use Rattle.layout.specs.declared.extent.ExtentRow.{ExtentRow}
 use Rattle.group.specs.Group.{member}
 use Rattle.group.specs.Filling.{extent}
 use Rattle.array.specs.declared.refusal.Fault.{Fault}
 use Rattle.array.specs.declared.refusal.Fault.TheVariants.{OfRow, OfBlock}
-use Rattle.array.specs.Configuration.{GroupConfig, Configuration, group_at, volume_at}
+use Rattle.array.specs.Configuration.{group_at}
 use Rattle.array.specs.Places.{mapped, blocks_of, spot_of, row_of, missing}
 use Rattle.array.specs.Checks.{Check, AllHold, FirstNo, Scene, group_checks, delete_group_checks, volume_checks, delete_volume_checks, control_checks, size_checks, map_checks, read_checks, write_checks}
 use Rattle.array.specs.Calls.{Blamed}

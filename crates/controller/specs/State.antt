@@ -1,5 +1,5 @@
 -- What the calls and answers alone say: the configuration and the expected contents after them. Assumes nothing.
-use Rattle.std.specs.Prelude.{◌≡◌, ℕ, ◌<◌, Bool, true, false, cond, ◌&&◌, List, [], ◌∷◌, map, length, take, replicate, Some, None, Option, ◌==◌}
+use Rattle.std.specs.Prelude.{ℕ, Bool, cond, ◌&&◌, List, [], ◌∷◌, map, take, None, ◌==◌}
 use Rattle.std.specs.List.{range_with_len}
 use Rattle.group.specs.Filling.{zeros}
 use Rattle.array.specs.Kinds.{method_of}

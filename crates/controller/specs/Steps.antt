@@ -1,5 +1,5 @@
 -- How the answers of an array's calls become those of a controller. Assumes nothing.
-use Rattle.std.specs.Prelude.{ℕ, Ok, Err, Result}
+use Rattle.std.specs.Prelude.{Ok, Err, Result}
 use Rattle.array.specs.declared.refusal.Refused.{Refused as TheRefused}
 use Rattle.controller.specs.declared.calls.Value.{Value}
 use Rattle.controller.specs.declared.calls.Value.TheVariants.{Done}

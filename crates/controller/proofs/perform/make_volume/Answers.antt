@@ -1,8 +1,8 @@
-use Rattle.std.proofs.Common.{None, sym, subst}
+use Rattle.std.proofs.Common.{sym, subst}
 use Rattle.array.specs.Arrays.{config}
 use Rattle.array.specs.Checks.{volume_checks}
 use Rattle.array.specs.Calls.{Configures}
-use Rattle.array.specs.Configuration.{Configuration, with_group, with_volume, new_volume, controlled}
+use Rattle.array.specs.Configuration.{Configuration, with_volume, new_volume}
 use Rattle.controller.specs.declared.calls.Call.TheVariants.{MakeVolume}
 use Rattle.controller.specs.declared.calls.Answer.{Answer}
 use Rattle.controller.specs.State.{state_of}
@@ -15,9 +15,9 @@ use Rattle.controller.proofs.perform.make_volume.Goals as goal
 pub returns : goal.returns
 returns c = λ m buffer.
     let a = c.args.array.now in
-    let z = c.make-volume.new.self in
-    let r = c.make-volume.result in
+    let z = c.make_volume.new.self in
+    let r = c.make_volume.result in
     let call = MakeVolume c.args.volume c.args.runs in
     subst (λ (x : Answer). Step (entry call buffer x buffer m m) a z m m) (sym c.done.ensures)
-    (λ past k. behind_by past call buffer buffer (answered r) a z m m k (λ (d : Configuration). Configures (volume_checks d c.args.volume c.args.runs.now) d (config z) (with_volume d c.args.volume (new_volume c.args.runs.now)) r) c.make-volume.ensures
+    (λ past k. behind_by past call buffer buffer (answered r) a z m m k (λ (d : Configuration). Configures (volume_checks d c.args.volume c.args.runs.now) d (config z) (with_volume d c.args.volume (new_volume c.args.runs.now)) r) c.make_volume.ensures
     (volume_made (state_of past) m k.lies k.whole k.held buffer c.args.volume c.args.runs (config z) r))

@@ -1,12 +1,10 @@
-use Rattle.std.proofs.Common.{◌≡◌, Ok, Err, Result, sym, subst}
-use Rattle.array.specs.declared.refusal.Refused.{Refused as TheRefused}
-use Rattle.array.specs.Arrays.{config}
+use Rattle.std.proofs.Common.{sym, subst}
 use Rattle.array.specs.Configuration.{Configuration}
 use Rattle.controller.specs.declared.calls.Answer.{Answer}
 use Rattle.controller.specs.State.{state_of}
 use Rattle.controller.specs.Steps.{answered}
 use Rattle.controller.specs.Law.{Step, entry}
-use Rattle.controller.proofs.Stepping.{behind_by, left_by}
+use Rattle.controller.proofs.Stepping.{left_by}
 use Rattle.controller.proofs.Traces.{sound_kept}
 use Rattle.array.specs.Calls.{OnDrives, ReadsBlock}
 use Rattle.controller.specs.declared.calls.Call.TheVariants.{Read}

@@ -1,13 +1,7 @@
-use Rattle.std.proofs.Common.{◌≡◌, Ok, Err, Result, sym, subst}
-use Rattle.array.specs.declared.refusal.Refused.{Refused as TheRefused}
-use Rattle.array.specs.Arrays.{config}
+use Rattle.std.proofs.Common.{◌≡◌, Ok, Err}
 use Rattle.array.specs.Configuration.{Configuration}
-use Rattle.controller.specs.declared.calls.Answer.{Answer}
 use Rattle.controller.specs.State.{state_of}
-use Rattle.controller.specs.Steps.{answered}
-use Rattle.controller.specs.Law.{Step, entry}
-use Rattle.controller.proofs.Stepping.{behind_by, left_by}
-use Rattle.controller.proofs.Traces.{sound_kept}
+use Rattle.controller.proofs.Stepping.{left_by}
 use Rattle.array.specs.Calls.{Asked}
 use Rattle.array.specs.Checks.{size_checks}
 use Rattle.array.specs.Places.{blocks_of}
