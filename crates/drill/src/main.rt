@@ -1,5 +1,7 @@
 // Lets each drive of a group die in each of its accesses in turn, by every method, while the group is filled, written,
 // read and rebuilt, and holds every block afterwards against what was accepted.
+#![tactic(auto)]
+
 use bus::Bus;
 use buses::{BreakingBus, MemoryBus};
 use group::fault::GroupFault;

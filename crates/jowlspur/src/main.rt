@@ -1,4 +1,6 @@
 // The console: reads a script, one call to a line, carries each out, and prints one answer for each.
+#![tactic(auto)]
+
 ghost use Rattle.std.specs.Prelude.{◌≡◌, true, []};
 ghost use Rattle.script.specs.Showing.{Grown};
 ghost use Rattle.jowlspur.specs.Printing.{complained};

@@ -1,4 +1,6 @@
 // Prints the place of every protected block of many groups, one group to a line, for a comparison with the model.
+#![tactic(auto)]
+
 use layout::geometry::Geometry;
 use layout::method::Method;
 use layout::mirror::Mirror;

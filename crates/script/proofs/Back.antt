@@ -1,5 +1,5 @@
 -- What is printed reads back. Assumes nothing.
-use Rattle.std.proofs.Common.{◌≡◌, ℕ, ◌+◌, ◌-◌, ◌*◌, ◌/◌, ◌%◌, ◌^◌, ◌<◌, ◌≤◌, Bool, true, false, cond, not, ◌||◌, eqb, ltb, leb, List, [], ◌∷◌, ◌++◌, map, length, replicate, Some, None, decimal, Option, sym, refl, ap, ◌∙◌, subst, append_assoc, append-nil, one-add, arith}
+use Rattle.std.proofs.Common.{◌≡◌, ℕ, ◌+◌, ◌-◌, ◌*◌, ◌/◌, ◌%◌, ◌^◌, ◌<◌, ◌≤◌, Bool, true, false, cond, not, ◌||◌, eqb, List, [], ◌∷◌, ◌++◌, map, length, replicate, Some, None, decimal, sym, refl, ap, ◌∙◌, subst, append_assoc, append-nil, one-add, arith}
 use Rattle.std.specs.Char.{is_ascii_digit, is_ascii_hexdigit, digit_char}
 use Rattle.std.specs.Int.{IsInRange}
 use Rattle.std.specs.List.{flat_map, AllByRecursion as All}
@@ -10,11 +10,11 @@ use Rattle.std.proofs.lemmas.Bool.{ne_eqb, eq-eqb, le-leb, and_from, cond-true, 
 use Rattle.std.proofs.lemmas.Bool.Decides.{nat_tests}
 use Rattle.script.specs.declared.kind.Kind.TheVariants.{Solid}
 use Rattle.script.specs.Kinds.{is, blank, hash}
-use Rattle.script.specs.Laws.{Word, WordsRead, NumbersRead, Apart, RunsLongest, BytesRead}
+use Rattle.script.specs.Laws.{Word, Apart}
 use Rattle.script.specs.Lines.{ended, words_after, words}
 use Rattle.script.specs.Numerals.{and_then, value_after, fitting, numeral, cut_at}
 use Rattle.script.specs.Showing.{before, runs, shown_run, spaced, shown}
-use Rattle.script.specs.Spelling.{hex_value, pair, one_byte, spelled, spelled_all, plain_or_run}
+use Rattle.script.specs.Spelling.{hex_value, one_byte, spelled, spelled_all, plain_or_run}
 use Rattle.script.proofs.Reading.{fits, numeral_some}
 use Rattle.script.proofs.Spelt.{run_is}
 use Rattle.script.proofs.Wording.{ended_some}

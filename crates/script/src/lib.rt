@@ -1,4 +1,6 @@
 //! The words of a script's line, and the numbers and bytes that words stand for.
+#![tactic(auto)]
+
 ghost use Rattle.script.specs.Laws.{WordsRead, NumbersRead, TriplesRead, RunsLongest, BytesRead};
 
 mod bytes;

@@ -1,4 +1,4 @@
-use Rattle.std.proofs.Common.{◌++◌, length, take, vec_items, codes, sym, ap, ◌∙◌, arith}
+use Rattle.std.proofs.Common.{◌++◌, take, vec_items, codes, ap, ◌∙◌, arith}
 use Rattle.std.proofs.lemmas.List.{take_all}
 use Rattle.script.proofs.Writing.{behind, extends_on}
 use Rattle.jowlspur.specs.Printing.{mark_of}

@@ -1,4 +1,4 @@
-use Rattle.std.proofs.Common.{◌≡◌, ◌+◌, ◌*◌, ◌<◌, [], ◌∷◌, ◌++◌, length, drop, vec_items, sym, ap, ◌∙◌, append_assoc, append-nil, arith, length-drop}
+use Rattle.std.proofs.Common.{◌+◌, ◌*◌, ◌<◌, [], ◌∷◌, ◌++◌, length, drop, vec_items, sym, ap, ◌∙◌, append_assoc, append-nil, arith, length-drop}
 use Rattle.script.specs.Spelling.{paired}
 use Rattle.script.proofs.Spelt.{paired_more, paired_short}
 use Rattle.script.proofs.bytes.push_pairs.Goals as goal

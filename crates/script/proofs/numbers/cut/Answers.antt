@@ -1,4 +1,4 @@
-use Rattle.std.proofs.Common.{◌≡◌, take, drop, Some, sym, ap, ◌∙◌, arith, true-eqb, false-eqb}
+use Rattle.std.proofs.Common.{take, drop, Some, sym, ap, ◌∙◌, arith, true-eqb, false-eqb}
 use Rattle.std.proofs.lemmas.List.{take_rest}
 use Rattle.script.proofs.Reading.{cut_none, cut_some}
 use Rattle.script.proofs.numbers.cut.Goals as goal

@@ -1,4 +1,4 @@
-use Rattle.std.proofs.Common.{[], ◌∷◌, ◌++◌, vec_items, decimal, ap, ◌∙◌}
+use Rattle.std.proofs.Common.{[], ◌∷◌, ◌++◌, vec_items, decimal, ◌∙◌}
 use Rattle.script.proofs.Writing.{behind}
 use Rattle.script.proofs.show.push_shown_run.Goals as goal
 

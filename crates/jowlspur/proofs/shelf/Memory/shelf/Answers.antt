@@ -1,4 +1,3 @@
-use Rattle.std.proofs.Common.{◌≡◌, sym, ap, ◌∙◌, subst}
 use Rattle.jowlspur.proofs.shelf.Memory.shelf.Goals as goal
 
 pub returns : goal.returns
