@@ -2,7 +2,7 @@
 use Rattle.std.proofs.Common.{◌≡◌, ℕ, ◌+◌, ◌-◌, ◌*◌, ◌/◌, ◌%◌, ◌^◌, ◌<◌, ◌≤◌, Bool, true, false, cond, not, ◌||◌, eqb, List, [], ◌∷◌, ◌++◌, map, length, replicate, Some, None, decimal, sym, refl, ap, ◌∙◌, subst, append_assoc, append-nil, one-add, arith}
 use Rattle.std.specs.Char.{is_ascii_digit, is_ascii_hexdigit, digit_char}
 use Rattle.std.specs.Int.{IsInRange}
-use Rattle.std.specs.List.{flat_map, AllByRecursion as All}
+use Rattle.std.specs.List.{flat_map, AllByRecursion}
 use Rattle.std.proofs.lemmas.Fmt.{decimal_by_steps}
 use Rattle.std.proofs.ByRecursion.{All-append, All-push, All-weaker, All-map}
 use Rattle.std.proofs.lemmas.List.{length-append}
@@ -21,7 +21,7 @@ use Rattle.script.proofs.Wording.{ended_some}
 
 -- words
 
-words_on : (u w rest : List ℕ) → All (λ c. is Solid c ≡ true) w → words_after u (w ++ rest) ≡ words_after (u ++ w) rest
+words_on : (u w rest : List ℕ) → AllByRecursion (λ c. is Solid c ≡ true) w → words_after u (w ++ rest) ≡ words_after (u ++ w) rest
 words_on u [] rest h = ap (λ x. words_after x rest) (sym (append-nil u))
 words_on u (c ∷ w) rest h = by (blank c) (hash c) h.0 (words_on (u ++ c ∷ []) w rest h.1 ∙ ap (λ x. words_after x rest) (append_assoc u (c ∷ []) w))
   where
@@ -30,20 +30,20 @@ words_on u (c ∷ w) rest h = by (blank c) (hash c) h.0 (words_on (u ++ c ∷ []
     by false true e k = let z : ◌≡◌ {A = ℕ} 0 1 = cc in absurd (omega arith)
     by false false e k = k
 
-pub words_back : (ws : List (List ℕ)) → All Word ws → words (spaced ws) ≡ ws
+pub words_back : (ws : List (List ℕ)) → AllByRecursion Word ws → words (spaced ws) ≡ ws
 words_back [] h = refl
 words_back (w ∷ []) h = ap words (sym (append-nil w)) ∙ words_on [] w [] h.0.1 ∙ ended_some w h.0.0
 words_back (w ∷ v ∷ ws) h = words_on [] w (32 ∷ spaced (v ∷ ws)) h.0.1 ∙ (λ i. ended_some w h.0.0 i ++ words_back (v ∷ ws) h.1 i)
 
-ended_sound : (u : List ℕ) → All (λ c. is Solid c ≡ true) u → All Word (ended u)
+ended_sound : (u : List ℕ) → AllByRecursion (λ c. is Solid c ≡ true) u → AllByRecursion Word (ended u)
 ended_sound [] h = tt
 ended_sound (c ∷ u) h = ((omega arith, h), tt)
 
-pub words_sound : (u l : List ℕ) → All (λ c. is Solid c ≡ true) u → All Word (words_after u l)
+pub words_sound : (u l : List ℕ) → AllByRecursion (λ c. is Solid c ≡ true) u → AllByRecursion Word (words_after u l)
 words_sound u [] h = ended_sound u h
 words_sound u (c ∷ cs) h = by (blank c) (hash c) refl refl (words_sound [] cs tt) (words_sound (u ++ c ∷ []) cs)
   where
-    by : (b t : Bool) → blank c ≡ b → hash c ≡ t → All Word (words cs) → (All (λ x. is Solid x ≡ true) (u ++ c ∷ []) → All Word (words_after (u ++ c ∷ []) cs)) → All Word (cond b (ended u ++ words cs) (cond t (ended u) (words_after (u ++ c ∷ []) cs)))
+    by : (b t : Bool) → blank c ≡ b → hash c ≡ t → AllByRecursion Word (words cs) → (AllByRecursion (λ x. is Solid x ≡ true) (u ++ c ∷ []) → AllByRecursion Word (words_after (u ++ c ∷ []) cs)) → AllByRecursion Word (cond b (ended u ++ words cs) (cond t (ended u) (words_after (u ++ c ∷ []) cs)))
     by true t eb et next on = All-append Word (ended u) (words cs) (ended_sound u h) next
     by false true eb et next on = ended_sound u h
     by false false eb et next on = on (All-push (λ x. is Solid x ≡ true) u c h (simp (eb, et)))
@@ -70,14 +70,14 @@ decimal_value = decimal_by_steps (λ m ds. value_after 0 ds ≡ Some m) (λ m h.
     more : (m : ℕ) (ds : List ℕ) → 10 ≤ m → value_after 0 ds ≡ Some (m / 10) → value_after 0 (ds ++ (48 + m % 10) ∷ []) ≡ Some m
     more m ds h e = value_push 0 (48 + m % 10) ds ∙ ap (λ o. and_then o (λ k. value_after k ((48 + m % 10) ∷ []))) e ∙ digit_value (m / 10) (m % 10) (omega arith) ∙ ap Some (omega arith)
 
-decimal_digits : (n : ℕ) → n < 2 ^ 64 → (0 < length (decimal n)) × All (λ c. IsInRange 48 57 c) (decimal n)
-decimal_digits = decimal_by_steps (λ m ds. (0 < length ds) × All (λ c. IsInRange 48 57 c) ds) (λ m h. (omega arith, ((omega arith, omega arith), tt)))
+decimal_digits : (n : ℕ) → n < 2 ^ 64 → (0 < length (decimal n)) × AllByRecursion (λ c. IsInRange 48 57 c) (decimal n)
+decimal_digits = decimal_by_steps (λ m ds. (0 < length ds) × AllByRecursion (λ c. IsInRange 48 57 c) ds) (λ m h. (omega arith, ((omega arith, omega arith), tt)))
     (λ m ds h e. (omega (arith, length-append ds ((48 + m % 10) ∷ [])), All-push (λ c. IsInRange 48 57 c) ds (48 + m % 10) e.1 (omega arith, omega arith)))
 
 pub numbers_back : (n : ℕ) → n < 2 ^ 64 → numeral (decimal n) ≡ Some n
 numbers_back n h = numeral_some (decimal n) (decimal_digits n h).0 ∙ ap (λ o. and_then o fitting) (decimal_value n h) ∙ fits n h
 
-pub cut_front : (at : ℕ) (w xs : List ℕ) → All (λ c. c ≡ at → ⊥) w → cut_at at (w ++ at ∷ xs) ≡ Some (w, xs)
+pub cut_front : (at : ℕ) (w xs : List ℕ) → AllByRecursion (λ c. c ≡ at → ⊥) w → cut_at at (w ++ at ∷ xs) ≡ Some (w, xs)
 cut_front at [] xs h = cond-true (eqb at at) _ _ (eq-eqb at at refl)
 cut_front at (c ∷ w) xs h = rw (ne_eqb c at h.0) (ap (λ o. and_then o (λ (p : List ℕ × List ℕ). Some (c ∷ p.0, p.1))) (cut_front at w xs h.1))
 
@@ -117,19 +117,19 @@ run_word n b h k =
 abbrev Fit : ℕ → ℕ × ℕ → Type 0
 Fit k r = (r.0 ≤ k) × (r.1 < 256)
 
-before_fit : (k b : ℕ) (rs : List (ℕ × ℕ)) → b < 256 → All (Fit k) rs → All (Fit (1 + k)) (before b rs)
+before_fit : (k b : ℕ) (rs : List (ℕ × ℕ)) → b < 256 → AllByRecursion (Fit k) rs → AllByRecursion (Fit (1 + k)) (before b rs)
 before_fit k b [] l h = ((omega arith, l), tt)
 before_fit k b ((n, c) ∷ rs) l h = by (eqb c b) (All-weaker (Fit k) (Fit (1 + k)) (λ r f. (omega arith, f.1)) rs h.1)
   where
-    by : (t : Bool) → All (Fit (1 + k)) rs → All (Fit (1 + k)) (cond t ((1 + n, b) ∷ rs) ((1, b) ∷ (n, c) ∷ rs))
+    by : (t : Bool) → AllByRecursion (Fit (1 + k)) rs → AllByRecursion (Fit (1 + k)) (cond t ((1 + n, b) ∷ rs) ((1, b) ∷ (n, c) ∷ rs))
     by true on = ((omega arith, l), on)
     by false on = ((omega arith, l), ((omega arith, h.0.1), on))
 
-runs_fit : (bs : List ℕ) → All (λ b. b < 256) bs → All (Fit (length bs)) (runs bs)
+runs_fit : (bs : List ℕ) → AllByRecursion (λ b. b < 256) bs → AllByRecursion (Fit (length bs)) (runs bs)
 runs_fit [] h = tt
-runs_fit (b ∷ bs) h = subst (λ k. All (Fit k) (before b (runs bs))) (one-add (length bs)) (before_fit (length bs) b (runs bs) h.0 (runs_fit bs h.1))
+runs_fit (b ∷ bs) h = subst (λ k. AllByRecursion (Fit k) (before b (runs bs))) (one-add (length bs)) (before_fit (length bs) b (runs bs) h.0 (runs_fit bs h.1))
 
-spelled_runs : (rs : List (ℕ × ℕ)) → All (λ r. (r.0 < 2 ^ 64) × (r.1 < 256)) rs → spelled_all (map shown_run rs) ≡ Some (flat_map bytes_of rs)
+spelled_runs : (rs : List (ℕ × ℕ)) → AllByRecursion (λ r. (r.0 < 2 ^ 64) × (r.1 < 256)) rs → spelled_all (map shown_run rs) ≡ Some (flat_map bytes_of rs)
 spelled_runs [] h = refl
 spelled_runs ((n, b) ∷ rs) h = (λ i. and_then (run_back n b h.0.0 h.0.1 i) (λ xs. and_then (spelled_runs rs h.1 i) (λ ys. Some (xs ++ ys))))
 
@@ -162,7 +162,7 @@ pub runs_apart : (bs : List ℕ) → Apart (runs bs)
 runs_apart [] = tt
 runs_apart (b ∷ bs) = before_apart b (runs bs) (runs_apart bs)
 
-pub bytes_back : (bs : List ℕ) → 0 < length bs → length bs < 2 ^ 64 → All (λ b. b < 256) bs → spelled_all (words (shown bs)) ≡ Some bs
+pub bytes_back : (bs : List ℕ) → 0 < length bs → length bs < 2 ^ 64 → AllByRecursion (λ b. b < 256) bs → spelled_all (words (shown bs)) ≡ Some bs
 bytes_back [] h l k = absurd (omega arith)
 bytes_back (b ∷ bs) h l k =
     let rs = runs (b ∷ bs) in

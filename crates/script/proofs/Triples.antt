@@ -1,7 +1,7 @@
 -- Three numbers with a colon between each two. Assumes nothing.
 use Rattle.std.proofs.Common.{◌≡◌, ℕ, ◌+◌, ◌-◌, ◌*◌, Bool, true, false, cond, eqb, List, [], ◌∷◌, ◌++◌, Some, None, Option, unwrap_or, sym, refl, ap, ◌∙◌, arith}
 use Rattle.std.specs.Char.{is_ascii_digit}
-use Rattle.std.specs.List.{AllByRecursion as All}
+use Rattle.std.specs.List.{AllByRecursion}
 use Rattle.std.proofs.lemmas.Bool.{eqb-true}
 use Rattle.script.specs.Laws.{Three}
 use Rattle.script.specs.Numerals.{and_then, value_after, fitting, numeral, cut_at, triple}
@@ -45,15 +45,15 @@ triple_sound w x y z e =
       third_is = t.1 ∙ ap (λ (r : ℕ × ℕ × ℕ). Some r.2) all;
     }
 
-no_colon : (k n : ℕ) (ds : List ℕ) → value_after k ds ≡ Some n → All (λ c. c ≡ 58 → ⊥) ds
+no_colon : (k n : ℕ) (ds : List ℕ) → value_after k ds ≡ Some n → AllByRecursion (λ c. c ≡ 58 → ⊥) ds
 no_colon k n [] e = tt
 no_colon k n (c ∷ ds) e = by (is_ascii_digit c) refl e (no_colon (k * 10 + (c - 48)) n ds)
   where
-    by : (b : Bool) → is_ascii_digit c ≡ b → cond b (value_after (k * 10 + (c - 48)) ds) None ≡ Some n → (value_after (k * 10 + (c - 48)) ds ≡ Some n → All (λ x. x ≡ 58 → ⊥) ds) → All (λ x. x ≡ 58 → ⊥) (c ∷ ds)
+    by : (b : Bool) → is_ascii_digit c ≡ b → cond b (value_after (k * 10 + (c - 48)) ds) None ≡ Some n → (value_after (k * 10 + (c - 48)) ds ≡ Some n → AllByRecursion (λ x. x ≡ 58 → ⊥) ds) → AllByRecursion (λ x. x ≡ 58 → ⊥) (c ∷ ds)
     by true d e more = (λ colon. let f : false ≡ true = ap is_ascii_digit (sym colon) ∙ d in let z : ◌≡◌ {A = ℕ} 0 1 = cc in omega arith, more e)
     by false d e more = let z : ◌≡◌ {A = ℕ} 0 1 = cc in absurd (omega arith)
 
-numeral_no_colon : (n : ℕ) (w : List ℕ) → numeral w ≡ Some n → All (λ c. c ≡ 58 → ⊥) w
+numeral_no_colon : (n : ℕ) (w : List ℕ) → numeral w ≡ Some n → AllByRecursion (λ c. c ≡ 58 → ⊥) w
 numeral_no_colon n [] e = tt
 numeral_no_colon n (c ∷ cs) e = let p = came_from (value_after 0 (c ∷ cs)) fitting n e in no_colon 0 p.0 (c ∷ cs) p.1
 

@@ -1,6 +1,6 @@
 -- What is printed reads back, and what is read has the form that it should have. Assumes nothing.
 use Rattle.std.specs.Prelude.{◌≡◌, ℕ, ◌^◌, ◌<◌, true, List, [], ◌∷◌, ◌++◌, length, replicate, Some, decimal, ◌≢◌}
-use Rattle.std.specs.List.{flat_map, AllByRecursion as All}
+use Rattle.std.specs.List.{flat_map, AllByRecursion}
 use Rattle.script.specs.declared.kind.Kind.TheVariants.{Solid}
 use Rattle.script.specs.Kinds.{is}
 use Rattle.script.specs.Lines.{words}
@@ -10,11 +10,11 @@ use Rattle.script.specs.Spelling.{spelled_all}
 
 -- one byte or more, and no blank or hash among them
 abbrev pub Word : List ℕ → Type 0
-Word w = (0 < length w) × All (λ c. is Solid c ≡ true) w
+Word w = (0 < length w) × AllByRecursion (λ c. is Solid c ≡ true) w
 
 -- every word of a line is one, and words with a space between each two read as those words
 abbrev pub WordsRead : Type 0
-WordsRead = ((line : List ℕ) → All Word (words line)) × ((ws : List (List ℕ)) → All Word ws → words (spaced ws) ≡ ws)
+WordsRead = ((line : List ℕ) → AllByRecursion Word (words line)) × ((ws : List (List ℕ)) → AllByRecursion Word ws → words (spaced ws) ≡ ws)
 
 -- a printed number reads as that number
 abbrev pub NumbersRead : Type 0
@@ -45,4 +45,4 @@ RunsLongest = (bs : List ℕ) → (flat_map (λ r. replicate r.0 r.1) (runs bs) 
 
 -- printed bytes read as those bytes
 abbrev pub BytesRead : Type 0
-BytesRead = (bs : List ℕ) → 0 < length bs → length bs < 2 ^ 64 → All (λ b. b < 256) bs → spelled_all (words (shown bs)) ≡ Some bs
+BytesRead = (bs : List ℕ) → 0 < length bs → length bs < 2 ^ 64 → AllByRecursion (λ b. b < 256) bs → spelled_all (words (shown bs)) ≡ Some bs
