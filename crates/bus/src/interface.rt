@@ -10,9 +10,6 @@ pub trait Bus {
     // The drives, with what each holds and whether it is broken.
     ghost drives: { Self → List Drive };
 
-    // At most 16 drives of 1 to 65,536 blocks each.
-    ghost sound: { (x : Self) → Sound (drives x) };
-
     fn count(&self) -> usize
         ensures { result ≡ length (drives self.now) };
 
@@ -31,6 +28,9 @@ pub trait Bus {
     // Replaces the block `at` by `bytes`, which are one block.
     fn write(&mut self, at: BlockAddress, bytes: &[u8]) -> Result<(), BusFault>
         ensures { Writes (drives self.old) (drives self.new) at.drive at.block bytes.now result };
+
+    // At most 16 drives of 1 to 65,536 blocks each.
+    ghost sound: { (x : Self) → Sound (drives x) };
 }
 
 // A bus that is lent is a bus.
