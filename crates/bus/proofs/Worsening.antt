@@ -3,9 +3,10 @@ use Rattle.std.proofs.Common.{◌≡◌, ℕ, ◌<◌, List, [], length, get_or,
 use Rattle.std.proofs.lemmas.List.{get_or-set_same, get_or-set_other, length-set}
 use Rattle.std.proofs.lemmas.Bool.{cases_eq}
 use Rattle.bus.specs.declared.fault.BusFault.{BusFault}
-use Rattle.bus.specs.declared.fault.BusFault.TheVariants.{NoDrive, Length, Range, Broken}
+use Rattle.bus.specs.declared.fault.Cause.{Cause}
+use Rattle.bus.specs.declared.fault.Cause.TheVariants.{NoDrive, Length, Range, Broken}
 use Rattle.bus.specs.Drives.{Drive, Worse, at, size, block, stored, broke}
-use Rattle.bus.specs.Requests.{Reads, Writes, Faults}
+use Rattle.bus.specs.Requests.{Reads, Writes, RefusedBy, Faults}
 use Rattle.bus.specs.Laws.{Elsewhere, WorseRefl, WorseTrans, WorseSound, WriteThenRead}
 use Rattle.bus.proofs.Changing.{at_set, at_other}
 
@@ -49,11 +50,14 @@ worse_broke s d h = record {
       (cases_eq k d);
 }
 
+refused_worsens : (s t : List Drive) (d b len : ℕ) (c : Cause) → RefusedBy s t d b len c → Worse s t
+refused_worsens s t d b len NoDrive q = worse_same q.same
+refused_worsens s t d b len Length q = worse_same q.same
+refused_worsens s t d b len Range q = worse_same q.same
+refused_worsens s t d b len Broken q = subst (λ v. Worse s v) (sym q.broken) (worse_broke s d q.placed.exists)
+
 pub faults_worsen : (s t : List Drive) (d b len : ℕ) (e : BusFault) → Faults s t d b len e → Worse s t
-faults_worsen s t d b len (NoDrive e f) q = worse_same q.1.same
-faults_worsen s t d b len (Length e f) q = worse_same q.1.same
-faults_worsen s t d b len (Range e f) q = worse_same q.1.same
-faults_worsen s t d b len (Broken e f) q = subst (λ v. Worse s v) (sym q.1.broken) (worse_broke s d q.1.placed.exists)
+faults_worsen s t d b len e q = refused_worsens s t d b len e.cause q.1
 
 pub reads_worsen : {U : Type 0} (s t : List Drive) (d b : ℕ) (was is : List ℕ) (r : Result U BusFault) → Reads s t d b was is r → Worse s t
 reads_worsen s t d b was is (Ok u) q = worse_same q.same
@@ -83,12 +87,15 @@ elsewhere_stored s d b xs h = record {
   stays = λ e. ap (λ v. v.broken) (at_set s d _ h) ∙ e;
 }
 
+refused_elsewhere : (s t : List Drive) (d b len : ℕ) (c : Cause) → RefusedBy s t d b len c → Elsewhere s t d b
+refused_elsewhere s t d b len NoDrive q = elsewhere_same s t d b q.same
+refused_elsewhere s t d b len Length q = elsewhere_same s t d b q.same
+refused_elsewhere s t d b len Range q = elsewhere_same s t d b q.same
+refused_elsewhere s t d b len Broken q =
+    subst (λ v. Elsewhere s v d b) (sym q.broken) (elsewhere_broke s d b q.placed.exists)
+
 pub faults_elsewhere : (s t : List Drive) (d b len : ℕ) (e : BusFault) → Faults s t d b len e → Elsewhere s t d b
-faults_elsewhere s t d b len (NoDrive e f) q = elsewhere_same s t d b q.1.same
-faults_elsewhere s t d b len (Length e f) q = elsewhere_same s t d b q.1.same
-faults_elsewhere s t d b len (Range e f) q = elsewhere_same s t d b q.1.same
-faults_elsewhere s t d b len (Broken e f) q =
-    subst (λ v. Elsewhere s v d b) (sym q.1.broken) (elsewhere_broke s d b q.1.placed.exists)
+faults_elsewhere s t d b len e q = refused_elsewhere s t d b len e.cause q.1
 
 pub writes_elsewhere : {U : Type 0} (s t : List Drive) (d b : ℕ) (xs : List ℕ) (r : Result U BusFault) → Writes s t d b xs r → Elsewhere s t d b
 writes_elsewhere s t d b xs (Ok u) q = subst (λ v. Elsewhere s v d b) (sym q.stored) (elsewhere_stored s d b xs q.placed.exists)

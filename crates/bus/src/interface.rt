@@ -2,15 +2,13 @@ ghost use Rattle.std.specs.Prelude.{◌≡◌, List, length};
 ghost use Rattle.bus.specs.Drives.{Drive, Sound, at, size};
 ghost use Rattle.bus.specs.Requests.{Reads, Writes};
 
+use crate::address::BlockAddress;
 use crate::fault::BusFault;
 
 // Drives numbered from 0, of blocks of 512 bytes.
 pub trait Bus {
     // The drives, with what each holds and whether it is broken.
     ghost drives: { Self → List Drive };
-
-    // At most 16 drives of 1 to 65,536 blocks each.
-    ghost sound: { (x : Self) → Sound (drives x) };
 
     fn count(&self) -> usize
         ensures { result ≡ length (drives self.now) };
@@ -23,13 +21,16 @@ pub trait Bus {
     fn broken(&self, d: usize) -> bool
         ensures { result ≡ (at (drives self.now) d).broken };
 
-    // Fills `buf`, which is one block long, with the block `b` of the drive `d`.
-    fn read(&mut self, d: usize, b: usize, buf: &mut [u8]) -> Result<(), BusFault>
-        ensures { Reads (drives self.old) (drives self.new) d b buf.old buf.new result };
+    // Fills `buf`, which is one block long, with the block `at`.
+    fn read(&mut self, at: BlockAddress, buf: &mut [u8]) -> Result<(), BusFault>
+        ensures { Reads (drives self.old) (drives self.new) at.drive at.block buf.old buf.new result };
 
-    // Replaces the block `b` of the drive `d` by `bytes`, which are one block.
-    fn write(&mut self, d: usize, b: usize, bytes: &[u8]) -> Result<(), BusFault>
-        ensures { Writes (drives self.old) (drives self.new) d b bytes.now result };
+    // Replaces the block `at` by `bytes`, which are one block.
+    fn write(&mut self, at: BlockAddress, bytes: &[u8]) -> Result<(), BusFault>
+        ensures { Writes (drives self.old) (drives self.new) at.drive at.block bytes.now result };
+
+    // At most 16 drives of 1 to 65,536 blocks each.
+    ghost sound: { (x : Self) → Sound (drives x) };
 }
 
 // A bus that is lent is a bus.
@@ -50,11 +51,11 @@ impl<'b, B: Bus> Bus for &'b mut B {
         (**self).broken(d)
     }
 
-    fn read(&mut self, d: usize, b: usize, buf: &mut [u8]) -> Result<(), BusFault> {
-        (**self).read(d, b, buf)
+    fn read(&mut self, at: BlockAddress, buf: &mut [u8]) -> Result<(), BusFault> {
+        (**self).read(at, buf)
     }
 
-    fn write(&mut self, d: usize, b: usize, bytes: &[u8]) -> Result<(), BusFault> {
-        (**self).write(d, b, bytes)
+    fn write(&mut self, at: BlockAddress, bytes: &[u8]) -> Result<(), BusFault> {
+        (**self).write(at, bytes)
     }
 }

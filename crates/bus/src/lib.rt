@@ -1,11 +1,13 @@
 // The bus of drives: what one is, what a request to it answers, and what may happen to it between requests.
 #![tactic(auto)]
 
+pub mod address;
 pub mod fault;
 pub mod interface;
 pub mod laws;
 
-pub use fault::BusFault;
+pub use address::BlockAddress;
+pub use fault::{BusFault, Cause};
 pub use interface::Bus;
 
 // The bytes of a block.

@@ -1,14 +1,16 @@
 -- A request to drives in a row of bytes.
-use Rattle.std.proofs.Common.{◌≡◌, ℕ, ◌+◌, ◌*◌, ◌<◌, ◌≤◌, List, ◌++◌, length, take, drop, Some, Err, sym, refl, ap, ◌∙◌, arith}
+use Rattle.std.proofs.Common.{◌≡◌, ℕ, ◌+◌, ◌*◌, ◌<◌, ◌≤◌, ◌≢◌, List, ◌++◌, length, take, drop, Err, sym, refl, ap, ◌∙◌, arith}
 use borrow.Rule.Slice.PartMut.{put_mid}
 use Rattle.std.proofs.lemmas.List.{length-append, length-take, length-drop, drop-drop}
 use Rattle.bus.specs.declared.fault.BusFault.{BusFault}
-use Rattle.bus.specs.declared.fault.BusFault.TheVariants.{NoDrive, Length, Range, Broken}
-use Rattle.bus.specs.Requests.{ReadBy, WroteBy}
+use Rattle.bus.specs.declared.fault.Cause.{Cause}
+use Rattle.bus.specs.declared.fault.Cause.TheVariants.{NoDrive, Length, Range, Broken}
+use Rattle.bus.specs.Numbers.{cause_number}
+use Rattle.bus.specs.Requests.{RefusedBy, ReadBy, WroteBy}
 use Rattle.buses.specs.Image.{image}
 use Rattle.buses.specs.Images.{room, count_is, size_is, working_is, block_is}
 use Rattle.buses.specs.Fitting.{Fit, fitting, fit_from_drive}
-use Rattle.buses.specs.Memory.{held, Located, Locates, Refuses}
+use Rattle.buses.specs.Memory.{held, Located, Locates, Wrong, Refuses}
 use Rattle.buses.proofs.Pieces.{written}
 
 length_put : (xs ys : List ℕ) (a : ℕ) → a + 512 ≤ length xs → length ys ≡ 512 → length (put_mid a 512 xs ys) ≡ length xs
@@ -19,15 +21,17 @@ module _ (xs : List ℕ) (n cap d b len : ℕ) where
   many = fitting (length xs) n cap
 
   -- what is wrong with a request is its fault
-  pub refused : (e : BusFault) → Refuses many cap d b len (Some e) → Locates xs n cap d b len (Err e)
-  refused (NoDrive i j) q = ((q.0, record { beyond = omega (arith, count_is xs many cap, q.1); same = refl }), λ e. omega arith)
-  refused (Length i j) q =
-      ((q.0, record { exists = omega (arith, count_is xs many cap, q.1); other = q.2; same = refl }), λ e. omega arith)
-  refused (Range i j) q = (
-    (q.0, record { exists = omega (arith, count_is xs many cap, q.1); whole = q.2; beyond = omega (arith, size_is xs many cap d q.1, q.3); same = refl }),
+  wrong : (c : Cause) → Wrong many cap d b len c → RefusedBy (held xs n cap) (held xs n cap) d b len c × (cause_number c ≢ 9)
+  wrong NoDrive q = (record { beyond = omega (arith, count_is xs many cap, q); same = refl }, λ e. omega arith)
+  wrong Length q = (record { exists = omega (arith, count_is xs many cap, q.0); other = q.1; same = refl }, λ e. omega arith)
+  wrong Range q = (
+    record { exists = omega (arith, count_is xs many cap, q.0); whole = q.1; beyond = omega (arith, size_is xs many cap d q.0, q.2); same = refl },
     λ e. omega arith,
   )
-  refused (Broken i j) q = absurd q
+  wrong Broken q = absurd q
+
+  pub refused : (e : BusFault) → Refuses {U = Unit {0}} many cap d b len (Err e) → Locates xs n cap d b len (Err e)
+  refused e q = ((q.0, (wrong e.cause q.1).0), (wrong e.cause q.1).1)
 
   module _ (dn : d < many) where
     fit : Fit (length xs) n cap

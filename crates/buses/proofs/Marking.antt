@@ -1,13 +1,15 @@
 -- Requests to a bus whose drives break when told to, from those to the bus below.
-use Rattle.std.proofs.Common.{◌≡◌, ℕ, ◌-◌, ◌<◌, ◌≤◌, Bool, true, false, ◌||◌, ◌≢◌, List, length, set, replicate, Some, None, Ok, Err, Option, Result, sym, refl, ap, ◌∙◌, subst, inl, inr, ⊎_elim, arith}
+use Rattle.std.proofs.Common.{◌≡◌, ℕ, ◌-◌, ◌<◌, ◌≤◌, Bool, true, false, ◌||◌, ◌≢◌, ◌⊎◌, List, length, set, replicate, Some, None, Ok, Err, Option, Result, sym, refl, ap, ◌∙◌, subst, inl, inr, ⊎_elim, arith}
 use Rattle.std.proofs.lemmas.List.{get_or-set_same, get_or-set_other, length-set, ext_get_or, set-get_or, get_or_past, get_or-replicate}
 use Rattle.std.proofs.lemmas.Bool.{cases_eq, cases_lt, or_right, or_from, or_cases, or_parts, both_ways, eqb-true, eqb-false, eq-eqb, ne_eqb, cond-true, cond-false}
 use Rattle.bus.specs.declared.fault.BusFault.{BusFault}
-use Rattle.bus.specs.declared.fault.BusFault.TheVariants.{NoDrive, Length, Range, Broken}
+use Rattle.bus.specs.declared.fault.Cause.{Cause}
+use Rattle.bus.specs.declared.fault.Cause.TheVariants.{NoDrive, Length, Range, Broken}
+use Rattle.bus.specs.Numbers.{broken_at}
 use Rattle.bus.specs.Drives.{Drive, at, stored, broke, absent}
-use Rattle.bus.specs.Requests.{Placed, Faults, Reads, Writes}
+use Rattle.bus.specs.Requests.{Placed, RefusedBy, Faults, Reads, Writes}
 use Rattle.bus.proofs.Changing.{at_set, at_other, set_by, broke_same}
-use Rattle.buses.specs.Breaking.{gone, left_of, fewer, mark, marked, ToldBy, Told, Breaks, Counts, FailsAsTold, Reached, Stops, count_marked, at_marked, size_marked, block_marked, broken_marked}
+use Rattle.buses.specs.Breaking.{gone, left_of, fewer, mark, marked, ToldBy, Told, Breaks, Counts, FailsAsTold, Reached, Missed, count_marked, at_marked, size_marked, block_marked, broken_marked}
 
 -- only which drives have nothing left matters
 pub marked_as : (s : List Drive) (ls ms : List (Option ℕ)) → ((k : ℕ) → gone (left_of ms k) ≡ gone (left_of ls k)) → marked s ms ≡ marked s ls
@@ -67,15 +69,21 @@ module _ (s : List Drive) (ls : List (Option ℕ)) (d b len : ℕ) where
     within = omega (arith, size_marked s ls d, p.within);
   }
 
+  refused_marked : (t : List Drive) (c : Cause) → RefusedBy s t d b len c → RefusedBy (marked s ls) (marked t ls) d b len c
+  refused_marked t NoDrive q = record { beyond = omega (arith, count_marked s ls, q.beyond); same = ap (λ v. marked v ls) q.same }
+  refused_marked t Length q =
+      record { exists = omega (arith, count_marked s ls, q.exists); other = q.other; same = ap (λ v. marked v ls) q.same }
+  refused_marked t Range q = record {
+    exists = omega (arith, count_marked s ls, q.exists);
+    whole = q.whole;
+    beyond = omega (arith, size_marked s ls d, q.beyond);
+    same = ap (λ v. marked v ls) q.same;
+  }
+  refused_marked t Broken q =
+      record { placed = placed_marked q.placed; broken = ap (λ v. marked v ls) q.broken ∙ marked_broke s ls d q.placed.exists }
+
   faults_marked : (t : List Drive) (e : BusFault) → Faults s t d b len e → Faults (marked s ls) (marked t ls) d b len e
-  faults_marked t (NoDrive e f) q = (q.0, record { beyond = omega (arith, count_marked s ls, q.1.beyond); same = ap (λ v. marked v ls) q.1.same })
-  faults_marked t (Length e f) q = (q.0, record { exists = omega (arith, count_marked s ls, q.1.exists); other = q.1.other; same = ap (λ v. marked v ls) q.1.same })
-  faults_marked t (Range e f) q = (
-    q.0,
-    record { exists = omega (arith, count_marked s ls, q.1.exists); whole = q.1.whole; beyond = omega (arith, size_marked s ls d, q.1.beyond); same = ap (λ v. marked v ls) q.1.same },
-  )
-  faults_marked t (Broken e f) q =
-      (q.0, record { placed = placed_marked q.1.placed; broken = ap (λ v. marked v ls) q.1.broken ∙ marked_broke s ls d q.1.placed.exists })
+  faults_marked t e q = (q.0, refused_marked t e.cause q.1)
 
 -- an access fewer: who works after it worked before, and who breaks by it had one left
 fewer_works : (x : Option ℕ) → gone (fewer x) ≡ false → gone x ≡ false
@@ -101,18 +109,24 @@ module _ (s : List Drive) (ls ms : List (Option ℕ)) (d b len : ℕ) where
   free_before : Reached s ls ms d b len false → gone (left_of ls d) ≡ false
   free_before r = fewer_works (left_of ls d) (ap gone (sym (here_left r)) ∙ r.flag)
 
-  pub held_back : Stops s ls ms d b len true → Faults (marked s ls) (marked s ms) d b len (Broken d b)
-  held_back r = (
+  abbrev pub LetThrough : Type 0
+  LetThrough = Reached s ls ms d b len false ⊎ Missed s ls ms d b len
+
+  abbrev pub HeldBack : BusFault → Type 0
+  HeldBack e = Reached s ls ms d b len true × (e ≡ broken_at d b)
+
+  pub held_back : (e : BusFault) → HeldBack e → Faults (marked s ls) (marked s ms) d b len e
+  held_back e h = let r = h.0 in subst (λ v. Faults (marked s ls) (marked s ms) d b len v) (sym h.1) (
     record { drive = refl; place = refl },
     record { placed = placed_marked s ls d b len r.placed; broken = marked_more s ls d r.placed.exists ms r.flag (other_left r) },
   )
 
-  pub free : Stops s ls ms d b len false → Placed s d b len → gone (left_of ls d) ≡ false
+  pub free : LetThrough → Placed s d b len → gone (left_of ls d) ≡ false
   free (inl r) p = free_before r
   free (inr m) p = absurd (m.misplaced p)
 
   -- a request that is let through marks no drive more
-  pub through : (t : List Drive) → Stops s ls ms d b len false → marked t ls ≡ marked t ms
+  pub through : (t : List Drive) → LetThrough → marked t ls ≡ marked t ms
   through t (inl r) =
       marked_as t ms ls
       (λ k.
@@ -122,10 +136,10 @@ module _ (s : List Drive) (ls ms : List (Option ℕ)) (d b len : ℕ) where
       (cases_eq k d))
   through t (inr m) = ap (marked t) (sym m.same)
 
-  pub counts_stopped : Stops s ls ms d b len true → Counts s s ls ms d b len
-  counts_stopped r = record { reached = λ p. r.counted; missed = λ n. absurd (n r.placed); untried = λ p e. refl }
+  pub counts_stopped : (e : BusFault) → HeldBack e → Counts s s ls ms d b len
+  counts_stopped e h = record { reached = λ p. h.0.counted; missed = λ n. absurd (n h.0.placed); untried = λ p e. refl }
 
-  pub counts_through : (t : List Drive) → Stops s ls ms d b len false → Counts s t ls ms d b len
+  pub counts_through : (t : List Drive) → LetThrough → Counts s t ls ms d b len
   counts_through t (inl r) = record { reached = λ p. r.counted; missed = λ n. absurd (n r.placed); untried = λ p e. absurd (both_ways (gone (left_of ms d)) r.flag e) }
   counts_through t (inr m) = record { reached = λ p. absurd (m.misplaced p); missed = λ n. m.same; untried = λ p e. absurd (m.misplaced p) }
 
@@ -147,14 +161,14 @@ module _ (s : List Drive) (ls ms : List (Option ℕ)) (d b len : ℕ) where
       (λ ne. absurd (both_ways (gone (left_of ls k)) e (ap gone (sym (other_left r k ne)) ∙ g)))
       (cases_eq k d)
 
-  pub fails_stopped : Stops s ls ms d b len true → FailsAsTold s s ls ms d
-  fails_stopped r = fails_by s (reached_why r)
+  pub fails_stopped : (e : BusFault) → HeldBack e → FailsAsTold s s ls ms d
+  fails_stopped e h = fails_by s (reached_why h.0)
 
-  pub fails_through : (t : List Drive) → Stops s ls ms d b len false → FailsAsTold s t ls ms d
+  pub fails_through : (t : List Drive) → LetThrough → FailsAsTold s t ls ms d
   fails_through t (inl r) = fails_by t (reached_why r)
   fails_through t (inr m) = fails_by t (λ k e g. absurd (both_ways (gone (left_of ls k)) e (ap (λ v. gone (left_of v k)) (sym m.same) ∙ g)))
 
-pub reads_marked : {U : Type 0} (s t : List Drive) (ls ms : List (Option ℕ)) (d b : ℕ) (was is : List ℕ) (r : Result U BusFault) → Stops s ls ms d b (length was) false → Reads s t d b was is r → Reads (marked s ls) (marked t ms) d b was is r
+pub reads_marked : {U : Type 0} (s t : List Drive) (ls ms : List (Option ℕ)) (d b : ℕ) (was is : List ℕ) (r : Result U BusFault) → LetThrough s ls ms d b (length was) → Reads s t d b was is r → Reads (marked s ls) (marked t ms) d b was is r
 reads_marked s t ls ms d b was is r h q = subst (λ v. Reads (marked s ls) v d b was is r) (through s ls ms d b (length was) t h) (go r q)
   where
     go : {U : Type 0} (r : Result U BusFault) → Reads s t d b was is r → Reads (marked s ls) (marked t ls) d b was is r
@@ -166,7 +180,7 @@ reads_marked s t ls ms d b was is r h q = subst (λ v. Reads (marked s ls) v d b
     }
     go (Err e) q = (q.0, faults_marked s ls d b (length was) t e q.1)
 
-pub writes_marked : {U : Type 0} (s t : List Drive) (ls ms : List (Option ℕ)) (d b : ℕ) (xs : List ℕ) (r : Result U BusFault) → Stops s ls ms d b (length xs) false → Writes s t d b xs r → Writes (marked s ls) (marked t ms) d b xs r
+pub writes_marked : {U : Type 0} (s t : List Drive) (ls ms : List (Option ℕ)) (d b : ℕ) (xs : List ℕ) (r : Result U BusFault) → LetThrough s ls ms d b (length xs) → Writes s t d b xs r → Writes (marked s ls) (marked t ms) d b xs r
 writes_marked s t ls ms d b xs r h q = subst (λ v. Writes (marked s ls) v d b xs r) (through s ls ms d b (length xs) t h) (go r q)
   where
     go : {U : Type 0} (r : Result U BusFault) → Writes s t d b xs r → Writes (marked s ls) (marked t ls) d b xs r
@@ -210,9 +224,8 @@ beyond_marked s ls d h =
     ap (λ v. v.broken) (get_or_past (marked s ls) d absent (omega (arith, count_marked s ls))) ∙ sym (ap (λ v. v.broken) (get_or_past s d absent h))
 
 -- a request that reached its drive, by whether the drive has anything left then
-pub stops_reached : (s : List Drive) (ls : List (Option ℕ)) (d b len : ℕ) (x : Option ℕ) (f : Bool) → Placed s d b len → d < length ls → x ≡ fewer (left_of ls d) → f ≡ gone x → Stops s ls (set ls d x) d b len f
-stops_reached s ls d b len x true p i e g = record { placed = p; inside = i; counted = ap (set ls d) e; flag = ap gone (get_or-set_same ls d x None i) ∙ sym g }
-stops_reached s ls d b len x false p i e g = inl (record { placed = p; inside = i; counted = ap (set ls d) e; flag = ap gone (get_or-set_same ls d x None i) ∙ sym g })
+pub reached_by : (s : List Drive) (ls : List (Option ℕ)) (d b len : ℕ) (x : Option ℕ) (f : Bool) → Placed s d b len → d < length ls → x ≡ fewer (left_of ls d) → f ≡ gone x → Reached s ls (set ls d x) d b len f
+reached_by s ls d b len x f p i e g = record { placed = p; inside = i; counted = ap (set ls d) e; flag = ap gone (get_or-set_same ls d x None i) ∙ sym g }
 
 -- telling it to break at once, by the drives alone
 pub breaks_told : {U : Type 0} (s t : List Drive) (ls ms : List (Option ℕ)) (d : ℕ) (r : Result U BusFault) → t ≡ s → Told s ls ms d 0 r → Breaks (marked s ls) (marked t ms) d r

@@ -8,7 +8,8 @@ use Rattle.std.proofs.lemmas.List.FromFn.{length-map-range_with_len, get_or-map-
 use Rattle.std.proofs.lemmas.List.{get_or_past}
 use Rattle.std.proofs.lemmas.Bool.{cases_lt}
 use Rattle.bus.specs.declared.fault.BusFault.{BusFault}
-use Rattle.bus.specs.declared.fault.BusFault.TheVariants.{NoDrive}
+use Rattle.bus.specs.declared.fault.Cause.TheVariants.{NoDrive}
+use Rattle.bus.specs.Numbers.{fault_at, broken_at}
 use Rattle.bus.specs.Drives.{Drive, Sound, Fails, at, size, block, broke, absent}
 use Rattle.bus.specs.Requests.{Placed}
 
@@ -45,7 +46,7 @@ pub record ToldBy (s : List Drive) (ls ms : List (Option ℕ)) (d n : ℕ) : Typ
 
 pub record UntoldBy (s : List Drive) (ls ms : List (Option ℕ)) (d : ℕ) (e : BusFault) : Type 0 where
   pub beyond : length s ≤ d
-  pub fault : e ≡ NoDrive d 0
+  pub fault : e ≡ fault_at NoDrive d 0
   pub same : ms ≡ ls
 
 abbrev pub Told : {U : Type 0} → List Drive → List (Option ℕ) → List (Option ℕ) → ℕ → ℕ → Result U BusFault → Type 0
@@ -59,7 +60,7 @@ pub record BrokeBy (s t : List Drive) (d : ℕ) : Type 0 where
 
 pub record NotBrokeBy (s t : List Drive) (d : ℕ) (e : BusFault) : Type 0 where
   pub beyond : length s ≤ d
-  pub fault : e ≡ NoDrive d 0
+  pub fault : e ≡ fault_at NoDrive d 0
   pub same : t ≡ s
 
 abbrev pub Breaks : {U : Type 0} → List Drive → List Drive → ℕ → Result U BusFault → Type 0
@@ -90,9 +91,9 @@ pub record Missed (s : List Drive) (ls ms : List (Option ℕ)) (d b len : ℕ) :
   pub misplaced : Placed s d b len → ⊥
   pub same : ms ≡ ls
 
-abbrev pub Stops : List Drive → List (Option ℕ) → List (Option ℕ) → ℕ → ℕ → ℕ → Bool → Type 0
-Stops s ls ms d b len true = Reached s ls ms d b len true
-Stops s ls ms d b len false = Reached s ls ms d b len false ⊎ Missed s ls ms d b len
+abbrev pub Stops : {U : Type 0} → List Drive → List (Option ℕ) → List (Option ℕ) → ℕ → ℕ → ℕ → Result U BusFault → Type 0
+Stops s ls ms d b len (Ok u) = Reached s ls ms d b len false ⊎ Missed s ls ms d b len
+Stops s ls ms d b len (Err e) = Reached s ls ms d b len true × (e ≡ broken_at d b)
 
 module _ (s : List Drive) (ls : List (Option ℕ)) where
   pub count_marked : length (marked s ls) ≡ length s

@@ -1,5 +1,5 @@
 -- Two buses as one: the drives of the second are numbered after those of the first.
-use Rattle.std.specs.Prelude.{◌≡◌, ℕ, ◌+◌, ◌-◌, ◌<◌, ◌≤◌, cond, ◌⊎◌, List, [], ◌++◌, length, Ok, Err, Result, nat_le, slice_index_or, refl}
+use Rattle.std.specs.Prelude.{◌≡◌, ℕ, ◌+◌, ◌-◌, ◌<◌, ◌≤◌, cond, ◌⊎◌, List, [], ◌++◌, length, Some, None, Ok, Err, Option, Result, nat_le, slice_index_or, refl}
 use Rattle.std.proofs.Common.{ap, ◌∙◌, ⊎_elim, arith}
 use Rattle.std.proofs.lemmas.List.{get_or_append_left, get_or-append_right, length-append}
 use Rattle.std.proofs.lemmas.Bool.{cases_lt, le-leb, lt-leb, cond-true, cond-false}
@@ -9,7 +9,7 @@ use Rattle.bus.specs.Drives.{Drive, Sound, Fails, at, absent}
 use Rattle.buses.specs.declared.misfit.Misfit.{Misfit}
 use Rattle.buses.specs.declared.misfit.Misfit.TheVariants.{Count, Capacity, Bytes}
 use Rattle.buses.specs.declared.joined.Side.{Side}
-use Rattle.buses.specs.declared.joined.Side.TheVariants.{First, Second, Neither}
+use Rattle.buses.specs.declared.joined.Side.TheVariants.{First, Second}
 
 -- all drives where they are at most 16, else none
 unfoldable pub joined : List Drive → List Drive → List Drive
@@ -23,10 +23,10 @@ FitsJoined s t (Err Capacity) = ⊥
 FitsJoined s t (Err Bytes) = ⊥
 
 -- where the drive d of two joined buses is
-abbrev pub Lies : List Drive → List Drive → ℕ → Side → Type 0
-Lies s t d First = (length s + length t ≤ 16) × (d < length s)
-Lies s t d (Second e) = (length s + length t ≤ 16) × (d ≡ length s + e)
-Lies s t d Neither = 16 < length s + length t
+abbrev pub Lies : List Drive → List Drive → ℕ → Option Side → Type 0
+Lies s t d (Some First) = (length s + length t ≤ 16) × (d < length s)
+Lies s t d (Some (Second e)) = (length s + length t ≤ 16) × (d ≡ length s + e)
+Lies s t d None = 16 < length s + length t
 
 -- the same answer, with its fault at the drive d
 abbrev pub renamed : {U : Type 0} → ℕ → Result U BusFault → Result U BusFault

@@ -1,7 +1,8 @@
 -- The drives of a memory bus, and what its requests answer beyond the rule of every bus.
-use Rattle.std.specs.Prelude.{◌≡◌, ℕ, ◌+◌, ◌*◌, ◌<◌, ◌≤◌, List, ◌++◌, length, take, drop, Some, None, Ok, Err, Option, Result, ◌≢◌}
+use Rattle.std.specs.Prelude.{◌≡◌, ℕ, ◌+◌, ◌*◌, ◌<◌, ◌≤◌, List, ◌++◌, length, take, drop, Ok, Err, Result, ◌≢◌}
 use Rattle.bus.specs.declared.fault.BusFault.{BusFault}
-use Rattle.bus.specs.declared.fault.BusFault.TheVariants.{NoDrive, Length, Range, Broken}
+use Rattle.bus.specs.declared.fault.Cause.{Cause}
+use Rattle.bus.specs.declared.fault.Cause.TheVariants.{NoDrive, Length, Range, Broken}
 use Rattle.bus.specs.Numbers.{number_of}
 use Rattle.bus.specs.Drives.{Drive}
 use Rattle.bus.specs.Requests.{Placed, Faults, Names}
@@ -14,15 +15,18 @@ abbrev pub held : List ℕ → ℕ → ℕ → List Drive
 held xs n cap = image xs (fitting (length xs) n cap) cap
 
 abbrev pub memory_drives : MemoryBus → List Drive
-memory_drives m = held m.bytes.now m.number m.capacity
+memory_drives m = held m.bytes.now m.drives.number m.drives.capacity
 
 -- a request to one of n drives of cap blocks that never break, and what is wrong with it
-abbrev pub Refuses : ℕ → ℕ → ℕ → ℕ → ℕ → Option BusFault → Type 0
-Refuses n cap d b len None = (d < n) × (len ≡ 512) × (b < cap)
-Refuses n cap d b len (Some (NoDrive e f)) = Names d b e f × (n ≤ d)
-Refuses n cap d b len (Some (Length e f)) = Names d b e f × (d < n) × (len ≢ 512)
-Refuses n cap d b len (Some (Range e f)) = Names d b e f × (d < n) × (len ≡ 512) × (cap ≤ b)
-Refuses n cap d b len (Some (Broken e f)) = ⊥
+abbrev pub Wrong : ℕ → ℕ → ℕ → ℕ → ℕ → Cause → Type 0
+Wrong n cap d b len NoDrive = n ≤ d
+Wrong n cap d b len Length = (d < n) × (len ≢ 512)
+Wrong n cap d b len Range = (d < n) × (len ≡ 512) × (cap ≤ b)
+Wrong n cap d b len Broken = ⊥
+
+abbrev pub Refuses : {U : Type 0} → ℕ → ℕ → ℕ → ℕ → ℕ → Result U BusFault → Type 0
+Refuses n cap d b len (Ok u) = (d < n) × (len ≡ 512) × (b < cap)
+Refuses n cap d b len (Err f) = Names d b f.at.drive f.at.block × Wrong n cap d b len f.cause
 
 -- where the block b of the drive d begins
 pub record Located (xs : List ℕ) (n cap d b len a : ℕ) : Type 0 where

@@ -1,35 +1,29 @@
 ghost use Rattle.std.specs.Prelude.{◌≡◌, Bool, length, replicate, None, Ok};
 ghost use Rattle.bus.specs.Requests.{Reads, Writes};
-ghost use Rattle.buses.specs.Breaking.{gone, fewer, marked, sound_marked, Told, Breaks, Counts, FailsAsTold, Stops};
+ghost use Rattle.buses.specs.Breaking.{gone, fewer, left_of, marked, sound_marked, Told, Breaks, Counts, FailsAsTold, Stops};
 
 use crate::misfit::Misfit;
-use bus::{BLOCK, Bus, BusFault, MOST_DRIVES};
+use bus::{BLOCK, BlockAddress, Bus, BusFault, Cause, MOST_DRIVES};
 
 // Any bus, whose drives break when told to.
 #[derive(Drop)]
 pub struct BreakingBus<B: Bus> {
     below: B,
     // For each drive the accesses it has left, where it was told to break; with 0 left it is broken.
-    left: [Option<usize>; 16],
+    left: [Option<usize>; MOST_DRIVES],
 }
 
 fn is_gone(left: Option<usize>) -> bool
     ensures { result ≡ gone left }
 {
-    match left {
-        None => false,
-        Some(n) => n == 0,
-    }
+    matches!(left, Some(0))
 }
 
 // What is left after one access more.
 fn one_fewer(left: Option<usize>) -> Option<usize>
     ensures { result ≡ fewer left }
 {
-    match left {
-        None => None,
-        Some(n) => Some(n.saturating_sub(1)),
-    }
+    left.map(|n| n.saturating_sub(1))
 }
 
 impl<B: Bus> BreakingBus<B> {
@@ -57,6 +51,13 @@ impl<B: Bus> BreakingBus<B> {
         &self.below
     }
 
+    // What the drive `d` has left, where it was told to break.
+    fn left_of(&self, d: usize) -> Option<usize>
+        ensures { result ≡ left_of self.now.left d }
+    {
+        self.left.get(d).copied().flatten()
+    }
+
     // Tells the drive `d` to break in the `n`-th next read or write that reaches it, at once where `n` is 0.
     // A later word counts in place of an earlier one, but mends nothing.
     pub fn break_in(&mut self, d: usize, n: usize) -> Result<(), BusFault>
@@ -64,7 +65,10 @@ impl<B: Bus> BreakingBus<B> {
         ensures below { self.new.below ≡ self.old.below }
     {
         if d >= self.below.count() {
-            return Err(BusFault::NoDrive { drive: d, block: 0 });
+            return Err(BusFault {
+                cause: Cause::NoDrive,
+                at: BlockAddress { drive: d, block: 0 },
+            });
         }
         if !is_gone(self.left[d]) {
             self.left[d] = Some(n);
@@ -80,23 +84,23 @@ impl<B: Bus> BreakingBus<B> {
         self.break_in(d, 0)
     }
 
-    // Counts a request that reaches its drive, and says whether the drive has nothing left then.
-    fn stops(&mut self, d: usize, b: usize, len: usize) -> bool
-        ensures stops { Stops (B.Bus.drives self.old.below) self.old.left self.new.left d b len result }
+    // Counts a request that reaches its drive, and refuses it where the drive has nothing left then.
+    fn access(&mut self, at: BlockAddress, len: usize) -> Result<(), BusFault>
+        ensures stops { Stops (B.Bus.drives self.old.below) self.old.left self.new.left at.drive at.block len result }
         ensures below { self.new.below ≡ self.old.below }
     {
-        if d >= MOST_DRIVES {
-            return false;
+        if len != BLOCK || at.block >= self.below.capacity(at.drive) {
+            return Ok(());
         }
-        if len != BLOCK {
-            return false;
+        let left = one_fewer(self.left[at.drive]);
+        self.left[at.drive] = left;
+        if is_gone(left) {
+            return Err(BusFault {
+                cause: Cause::Broken,
+                at,
+            });
         }
-        if b >= self.below.capacity(d) {
-            return false;
-        }
-        let left = one_fewer(self.left[d]);
-        self.left[d] = left;
-        is_gone(left)
+        Ok(())
     }
 }
 
@@ -114,33 +118,24 @@ impl<B: Bus> Bus for BreakingBus<B> {
     }
 
     fn broken(&self, d: usize) -> bool {
-        let below = self.below.broken(d);
-        if d < MOST_DRIVES {
-            below | is_gone(self.left[d])
-        } else {
-            below
-        }
+        self.below.broken(d) || is_gone(self.left_of(d))
     }
 
-    fn read(&mut self, d: usize, b: usize, buf: &mut [u8]) -> Result<(), BusFault>
-        ensures reads { Reads (marked (B.Bus.drives self.old.below) self.old.left) (marked (B.Bus.drives self.new.below) self.new.left) d b buf.old buf.new result }
-        ensures counts { Counts (B.Bus.drives self.old.below) (B.Bus.drives self.new.below) self.old.left self.new.left d b (length buf.old) }
-        ensures fails { FailsAsTold (B.Bus.drives self.old.below) (B.Bus.drives self.new.below) self.old.left self.new.left d }
+    fn read(&mut self, at: BlockAddress, buf: &mut [u8]) -> Result<(), BusFault>
+        ensures reads { Reads (marked (B.Bus.drives self.old.below) self.old.left) (marked (B.Bus.drives self.new.below) self.new.left) at.drive at.block buf.old buf.new result }
+        ensures counts { Counts (B.Bus.drives self.old.below) (B.Bus.drives self.new.below) self.old.left self.new.left at.drive at.block (length buf.old) }
+        ensures fails { FailsAsTold (B.Bus.drives self.old.below) (B.Bus.drives self.new.below) self.old.left self.new.left at.drive }
     {
-        if self.stops(d, b, buf.len()) {
-            return Err(BusFault::Broken { drive: d, block: b });
-        }
-        self.below.read(d, b, buf)
+        self.access(at, buf.len())?;
+        self.below.read(at, buf)
     }
 
-    fn write(&mut self, d: usize, b: usize, bytes: &[u8]) -> Result<(), BusFault>
-        ensures writes { Writes (marked (B.Bus.drives self.old.below) self.old.left) (marked (B.Bus.drives self.new.below) self.new.left) d b bytes.now result }
-        ensures counts { Counts (B.Bus.drives self.old.below) (B.Bus.drives self.new.below) self.old.left self.new.left d b (length bytes.now) }
-        ensures fails { FailsAsTold (B.Bus.drives self.old.below) (B.Bus.drives self.new.below) self.old.left self.new.left d }
+    fn write(&mut self, at: BlockAddress, bytes: &[u8]) -> Result<(), BusFault>
+        ensures writes { Writes (marked (B.Bus.drives self.old.below) self.old.left) (marked (B.Bus.drives self.new.below) self.new.left) at.drive at.block bytes.now result }
+        ensures counts { Counts (B.Bus.drives self.old.below) (B.Bus.drives self.new.below) self.old.left self.new.left at.drive at.block (length bytes.now) }
+        ensures fails { FailsAsTold (B.Bus.drives self.old.below) (B.Bus.drives self.new.below) self.old.left self.new.left at.drive }
     {
-        if self.stops(d, b, bytes.len()) {
-            return Err(BusFault::Broken { drive: d, block: b });
-        }
-        self.below.write(d, b, bytes)
+        self.access(at, bytes.len())?;
+        self.below.write(at, bytes)
     }
 }

@@ -1,9 +1,9 @@
 ghost use Rattle.std.specs.Prelude.{◌≡◌};
 ghost use Rattle.bus.specs.Requests.{Reads, Writes};
-ghost use Rattle.buses.specs.Joined.{joined, renamed, sound_joined, FitsJoined, Lies, FailsBelow};
+ghost use Rattle.buses.specs.Joined.{joined, sound_joined, FitsJoined, Lies, FailsBelow};
 
 use crate::misfit::Misfit;
-use bus::{Bus, BusFault, MOST_DRIVES};
+use bus::{BlockAddress, Bus, BusFault, Cause, MOST_DRIVES};
 
 // Two buses as one: the drives of the second are numbered after those of the first.
 // One with more than 16 drives has none.
@@ -14,24 +14,12 @@ pub struct JoinedBus<A: Bus, B: Bus> {
 }
 
 // Which of the two buses a drive is of.
-#[derive(Clone, Copy)]
+#[derive(Clone, Copy, PartialEq, Eq, Debug)]
 enum Side {
     // The first, with the same number.
     First,
     // The second, with its number there, or a number beyond it.
     Second(usize),
-    // None: there are too many drives.
-    Neither,
-}
-
-// The same answer, with its fault at the drive `d`.
-fn rename(r: Result<(), BusFault>, d: usize) -> Result<(), BusFault>
-    ensures { result ≡ renamed d r }
-{
-    match r {
-        Ok(()) => Ok(()),
-        Err(e) => Err(e.at_drive(d)),
-    }
 }
 
 impl<A: Bus, B: Bus> JoinedBus<A, B> {
@@ -64,18 +52,19 @@ impl<A: Bus, B: Bus> JoinedBus<A, B> {
         &self.second
     }
 
-    fn side(&self, d: usize) -> Side
+    // None where there are too many drives.
+    fn side(&self, d: usize) -> Option<Side>
         ensures { Lies (A.Bus.drives self.now.first) (B.Bus.drives self.now.second) d result }
     {
         let n = self.first.count();
         if n + self.second.count() > MOST_DRIVES {
-            return Side::Neither;
+            return None;
         }
-        if d < n {
+        Some(if d < n {
             Side::First
         } else {
             Side::Second(d - n)
-        }
+        })
     }
 }
 
@@ -91,39 +80,51 @@ impl<A: Bus, B: Bus> Bus for JoinedBus<A, B> {
 
     fn capacity(&self, d: usize) -> usize {
         match self.side(d) {
-            Side::First => self.first.capacity(d),
-            Side::Second(e) => self.second.capacity(e),
-            Side::Neither => 0,
+            Some(Side::First) => self.first.capacity(d),
+            Some(Side::Second(e)) => self.second.capacity(e),
+            None => 0,
         }
     }
 
     fn broken(&self, d: usize) -> bool {
         match self.side(d) {
-            Side::First => self.first.broken(d),
-            Side::Second(e) => self.second.broken(e),
-            Side::Neither => true,
+            Some(Side::First) => self.first.broken(d),
+            Some(Side::Second(e)) => self.second.broken(e),
+            None => true,
         }
     }
 
-    fn read(&mut self, d: usize, b: usize, buf: &mut [u8]) -> Result<(), BusFault>
-        ensures reads { Reads (joined (A.Bus.drives self.old.first) (B.Bus.drives self.old.second)) (joined (A.Bus.drives self.new.first) (B.Bus.drives self.new.second)) d b buf.old buf.new result }
+    fn read(&mut self, at: BlockAddress, buf: &mut [u8]) -> Result<(), BusFault>
+        ensures reads { Reads (joined (A.Bus.drives self.old.first) (B.Bus.drives self.old.second)) (joined (A.Bus.drives self.new.first) (B.Bus.drives self.new.second)) at.drive at.block buf.old buf.new result }
         ensures fails { FailsBelow (A.Bus.drives self.old.first) (B.Bus.drives self.old.second) (A.Bus.drives self.new.first) (B.Bus.drives self.new.second) }
     {
-        match self.side(d) {
-            Side::First => rename(self.first.read(d, b, buf), d),
-            Side::Second(e) => rename(self.second.read(e, b, buf), d),
-            Side::Neither => Err(BusFault::NoDrive { drive: d, block: b }),
+        match self.side(at.drive) {
+            Some(Side::First) => self.first.read(at, buf),
+            Some(Side::Second(e)) => {
+                let read = self.second.read(BlockAddress { drive: e, ..at }, buf);
+                read.map_err(|fault| fault.at_drive(at.drive))
+            }
+            None => Err(BusFault {
+                cause: Cause::NoDrive,
+                at,
+            }),
         }
     }
 
-    fn write(&mut self, d: usize, b: usize, bytes: &[u8]) -> Result<(), BusFault>
-        ensures writes { Writes (joined (A.Bus.drives self.old.first) (B.Bus.drives self.old.second)) (joined (A.Bus.drives self.new.first) (B.Bus.drives self.new.second)) d b bytes.now result }
+    fn write(&mut self, at: BlockAddress, bytes: &[u8]) -> Result<(), BusFault>
+        ensures writes { Writes (joined (A.Bus.drives self.old.first) (B.Bus.drives self.old.second)) (joined (A.Bus.drives self.new.first) (B.Bus.drives self.new.second)) at.drive at.block bytes.now result }
         ensures fails { FailsBelow (A.Bus.drives self.old.first) (B.Bus.drives self.old.second) (A.Bus.drives self.new.first) (B.Bus.drives self.new.second) }
     {
-        match self.side(d) {
-            Side::First => rename(self.first.write(d, b, bytes), d),
-            Side::Second(e) => rename(self.second.write(e, b, bytes), d),
-            Side::Neither => Err(BusFault::NoDrive { drive: d, block: b }),
+        match self.side(at.drive) {
+            Some(Side::First) => self.first.write(at, bytes),
+            Some(Side::Second(e)) => {
+                let written = self.second.write(BlockAddress { drive: e, ..at }, bytes);
+                written.map_err(|fault| fault.at_drive(at.drive))
+            }
+            None => Err(BusFault {
+                cause: Cause::NoDrive,
+                at,
+            }),
         }
     }
 }

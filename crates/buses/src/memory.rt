@@ -4,7 +4,15 @@ ghost use Rattle.buses.specs.Fitting.{FitsMemory, fitting, sound_fitting};
 ghost use Rattle.buses.specs.Memory.{held, memory_drives, Locates, Refuses, Unbroken, Overwrites};
 
 use crate::misfit::Misfit;
-use bus::{BLOCK, Bus, BusFault, MOST_BLOCKS, MOST_DRIVES};
+use bus::{BLOCK, BlockAddress, Bus, BusFault, Cause, MOST_BLOCKS, MOST_DRIVES};
+
+// Drives of one capacity.
+#[derive(Clone, Copy, PartialEq, Eq, Debug)]
+pub struct Drives {
+    pub number: usize,
+    // The blocks of each.
+    pub capacity: usize,
+}
 
 fn copy_block(block: &mut [u8], from: &[u8])
     requires { length block.old ≡ length from.now }
@@ -13,31 +21,40 @@ fn copy_block(block: &mut [u8], from: &[u8])
     block.copy_from_slice(from);
 }
 
-// Where the block `b` of the drive `d` begins.
-fn start_of(capacity: usize, d: usize, b: usize) -> usize
-    requires few { d < 16 }
+// Where the block `at` of drives of `capacity` blocks begins.
+fn start_of(capacity: usize, at: BlockAddress) -> usize
+    requires few { at.drive < 16 }
     requires small { capacity ≤ 65536 }
-    requires within { b < capacity }
-    ensures value { result ≡ (d * capacity + b) * 512 }
+    requires within { at.block < capacity }
+    ensures value { result ≡ (at.drive * capacity + at.block) * 512 }
     ensures bound { result < 2 ^ 32 }
 {
-    (d * capacity + b) * BLOCK
+    (at.drive * capacity + at.block) * BLOCK
 }
 
-// What is wrong with a request to one of `n` drives of `capacity` blocks, in the order in which it is asked.
-fn refusal(n: usize, capacity: usize, d: usize, b: usize, len: usize) -> Option<BusFault>
-    ensures { Refuses n capacity d b len result }
+// Whether a request with `len` bytes reaches one of `drives`, or what is wrong with it, in the order in which it is asked.
+fn reach(drives: Drives, at: BlockAddress, len: usize) -> Result<(), BusFault>
+    ensures { Refuses drives.number drives.capacity at.drive at.block len result }
 {
-    if d >= n {
-        return Some(BusFault::NoDrive { drive: d, block: b });
+    if at.drive >= drives.number {
+        return Err(BusFault {
+            cause: Cause::NoDrive,
+            at,
+        });
     }
     if len != BLOCK {
-        return Some(BusFault::Length { drive: d, block: b });
+        return Err(BusFault {
+            cause: Cause::Length,
+            at,
+        });
     }
-    if b >= capacity {
-        return Some(BusFault::Range { drive: d, block: b });
+    if at.block >= drives.capacity {
+        return Err(BusFault {
+            cause: Cause::Range,
+            at,
+        });
     }
-    None
+    Ok(())
 }
 
 // Drives of one capacity in memory that the caller lends and gets back; they never break.
@@ -45,69 +62,63 @@ fn refusal(n: usize, capacity: usize, d: usize, b: usize, len: usize) -> Option<
 #[derive(Drop)]
 pub struct MemoryBus<'a> {
     bytes: &'a mut [u8],
-    number: usize,
-    capacity: usize,
+    drives: Drives,
 }
 
 impl<'a> MemoryBus<'a> {
-    // Whether `number` drives of `capacity` blocks fill `len` bytes, asked before a bus is made.
-    pub fn fit(len: usize, number: usize, capacity: usize) -> Result<(), Misfit>
-        ensures { FitsMemory len number capacity result }
+    // Whether `drives` fill `len` bytes, asked before a bus is made.
+    pub fn fit(len: usize, drives: Drives) -> Result<(), Misfit>
+        ensures { FitsMemory len drives.number drives.capacity result }
     {
-        if number > MOST_DRIVES {
+        if drives.number > MOST_DRIVES {
             return Err(Misfit::Count);
         }
-        if capacity < 1 {
+        if drives.capacity < 1 || drives.capacity > MOST_BLOCKS {
             return Err(Misfit::Capacity);
         }
-        if capacity > MOST_BLOCKS {
-            return Err(Misfit::Capacity);
-        }
-        if len != number * capacity * BLOCK {
+        if len != drives.number * drives.capacity * BLOCK {
             return Err(Misfit::Bytes);
         }
         Ok(())
     }
 
-    pub fn new(bytes: &'a mut [u8], number: usize, capacity: usize) -> MemoryBus<'a>
+    pub fn new(bytes: &'a mut [u8], drives: Drives) -> MemoryBus<'a>
         ensures bytes { result.bytes.now ≡ bytes.old }
-        ensures number { result.number ≡ number }
-        ensures capacity { result.capacity ≡ capacity }
+        ensures drives { result.drives ≡ drives }
         ensures named { result.bytes.ghost_name ≡ bytes.entry.ghost_name }
     {
-        MemoryBus {
-            bytes,
-            number,
-            capacity,
-        }
+        MemoryBus { bytes, drives }
     }
 
     // The drives there are: all, or none where they don't fit.
     fn present(&self) -> usize
-        ensures { result ≡ fitting (length self.now.bytes.now) self.now.number self.now.capacity }
+        ensures { result ≡ fitting (length self.now.bytes.now) self.now.drives.number self.now.drives.capacity }
     {
-        match MemoryBus::fit(self.bytes.len(), self.number, self.capacity) {
-            Ok(()) => self.number,
-            Err(_) => 0,
+        if MemoryBus::fit(self.bytes.len(), self.drives).is_ok() {
+            self.drives.number
+        } else {
+            0
         }
     }
 
     // Where the block of a request with `len` bytes begins, or why there is none.
-    fn locate(&self, d: usize, b: usize, len: usize) -> Result<usize, BusFault>
-        ensures { Locates self.now.bytes.now self.now.number self.now.capacity d b len result }
+    fn locate(&self, at: BlockAddress, len: usize) -> Result<usize, BusFault>
+        ensures { Locates self.now.bytes.now self.now.drives.number self.now.drives.capacity at.drive at.block len result }
     {
-        match refusal(self.present(), self.capacity, d, b, len) {
-            Some(fault) => Err(fault),
-            None => Ok(start_of(self.capacity, d, b)),
-        }
+        let drives = Drives {
+            number: self.present(),
+            ..self.drives
+        };
+        reach(drives, at, len)?;
+        Ok(start_of(drives.capacity, at))
     }
 
-    // The block `b` of the drive `d`, for who may only look.
-    pub fn peek(&self, d: usize, b: usize, buf: &mut [u8]) -> Result<(), BusFault>
-        ensures reads { Reads (memory_drives self.now) (memory_drives self.now) d b buf.old buf.new result }
+    // The block `at`, for who may only look.
+    pub fn peek(&self, at: BlockAddress, buf: &mut [u8]) -> Result<(), BusFault>
+        ensures reads { Reads (memory_drives self.now) (memory_drives self.now) at.drive at.block buf.old buf.new result }
         ensures unbroken { Unbroken result }
     {
-        let a = self.locate(d, b, buf.len())?;
+        let a = self.locate(at, buf.len())?;
         copy_block(buf, &self.bytes[a..a + BLOCK]);
         Ok(())
     }
@@ -116,7 +127,7 @@ impl<'a> MemoryBus<'a> {
 impl<'a> Bus for MemoryBus<'a> {
     ghost drives = { memory_drives };
 
-    ghost sound = { λ m. sound_fitting m.bytes.now m.number m.capacity };
+    ghost sound = { λ m. sound_fitting m.bytes.now m.drives.number m.drives.capacity };
 
     fn count(&self) -> usize {
         self.present()
@@ -124,34 +135,31 @@ impl<'a> Bus for MemoryBus<'a> {
 
     fn capacity(&self, d: usize) -> usize {
         let n = self.present();
-        if d < n { self.capacity } else { 0 }
+        if d < n { self.drives.capacity } else { 0 }
     }
 
     fn broken(&self, d: usize) -> bool {
-        let present = self.present();
-        d >= present
+        d >= self.present()
     }
 
-    fn read(&mut self, d: usize, b: usize, buf: &mut [u8]) -> Result<(), BusFault>
-        ensures reads { Reads (memory_drives self.old) (memory_drives self.new) d b buf.old buf.new result }
+    fn read(&mut self, at: BlockAddress, buf: &mut [u8]) -> Result<(), BusFault>
+        ensures reads { Reads (memory_drives self.old) (memory_drives self.new) at.drive at.block buf.old buf.new result }
         ensures unbroken { Unbroken result }
         ensures same { self.new.bytes.now ≡ self.old.bytes.now }
         ensures named { self.new.bytes.ghost_name ≡ self.old.bytes.ghost_name }
-        ensures number { self.new.number ≡ self.old.number }
-        ensures capacity { self.new.capacity ≡ self.old.capacity }
+        ensures drives { self.new.drives ≡ self.old.drives }
     {
-        self.peek(d, b, buf)
+        self.peek(at, buf)
     }
 
-    fn write(&mut self, d: usize, b: usize, bytes: &[u8]) -> Result<(), BusFault>
-        ensures writes { Writes (memory_drives self.old) (memory_drives self.new) d b bytes.now result }
+    fn write(&mut self, at: BlockAddress, bytes: &[u8]) -> Result<(), BusFault>
+        ensures writes { Writes (memory_drives self.old) (memory_drives self.new) at.drive at.block bytes.now result }
         ensures unbroken { Unbroken result }
-        ensures after { Overwrites self.old.bytes.now self.new.bytes.now self.old.capacity d b bytes.now result }
+        ensures after { Overwrites self.old.bytes.now self.new.bytes.now self.old.drives.capacity at.drive at.block bytes.now result }
         ensures named { self.new.bytes.ghost_name ≡ self.old.bytes.ghost_name }
-        ensures number { self.new.number ≡ self.old.number }
-        ensures capacity { self.new.capacity ≡ self.old.capacity }
+        ensures drives { self.new.drives ≡ self.old.drives }
     {
-        let a = self.locate(d, b, bytes.len())?;
+        let a = self.locate(at, bytes.len())?;
         copy_block(&mut self.bytes[a..a + BLOCK], bytes);
         Ok(())
     }
@@ -160,15 +168,12 @@ impl<'a> Bus for MemoryBus<'a> {
 // One write to the drives in `memory`, which is known to its owner afterwards.
 pub fn write_image(
     memory: &mut [u8],
-    number: usize,
-    capacity: usize,
-    d: usize,
-    b: usize,
+    drives: Drives,
+    at: BlockAddress,
     bytes: &[u8],
 ) -> Result<(), BusFault>
-    ensures writes { Writes (held memory.old number capacity) (held memory.new number capacity) d b bytes.now result }
-    ensures after { Overwrites memory.old memory.new capacity d b bytes.now result }
+    ensures writes { Writes (held memory.old drives.number drives.capacity) (held memory.new drives.number drives.capacity) at.drive at.block bytes.now result }
+    ensures after { Overwrites memory.old memory.new drives.capacity at.drive at.block bytes.now result }
 {
-    let mut bus = MemoryBus::new(memory, number, capacity);
-    bus.write(d, b, bytes)
+    MemoryBus::new(memory, drives).write(at, bytes)
 }

@@ -7,7 +7,7 @@ returns-then-not-is_gone g c =
     let k = c.args.self.now in
     let h : c.args.d < length (g.B.Bus.drives k.below) = omega arith in
     record {
-      told = told_working (g.B.Bus.drives k.below) k.left c.args.d c.args.n h (omega (arith, (g.B.Bus.sound k.below).few)) (sym c.if-not-is_gone.ensures);
+      told = told_working (g.B.Bus.drives k.below) k.left c.args.d c.args.n h (omega (arith, (g.met.B.Bus.sound k.below).few)) (sym c.if-not-is_gone.ensures);
       below = refl;
     }
 
@@ -16,6 +16,6 @@ returns-else-not-is_gone g c =
     let k = c.args.self.now in
     let h : c.args.d < length (g.B.Bus.drives k.below) = omega arith in
     record {
-      told = told_broken (g.B.Bus.drives k.below) k.left c.args.d c.args.n h (omega (arith, (g.B.Bus.sound k.below).few)) (sym c.if-not-is_gone.ensures);
+      told = told_broken (g.B.Bus.drives k.below) k.left c.args.d c.args.n h (omega (arith, (g.met.B.Bus.sound k.below).few)) (sym c.if-not-is_gone.ensures);
       below = refl;
     }

@@ -1,36 +1,46 @@
 use Rattle.std.proofs.Common.{length, sym, refl, ap, subst}
+use Rattle.std.proofs.lemmas.Result.{err_from_is_err_and}
 use Rattle.bus.specs.Requests.{Faults, Reads}
-use Rattle.bus.specs.declared.fault.BusFault.TheVariants.{Broken}
-use Rattle.buses.specs.Breaking.{marked, Counts, FailsAsTold}
-use Rattle.buses.proofs.Marking.{held_back, counts_stopped, counts_through, fails_stopped, fails_through, reads_marked}
+use Rattle.buses.specs.Breaking.{marked, FailsAsTold}
+use Rattle.buses.proofs.Marking.{held_back, fails_stopped, fails_through, reads_marked}
 use Rattle.buses.proofs.breaking.BreakingBusBus.read.Goals as goal
 
-pub returns-then-stops : goal.returns-then-stops
-returns-then-stops g c =
+pub returns-in_err-access-clause-reads : goal.returns-in_err-access-clause-reads
+returns-in_err-access-clause-reads g c =
     let k = c.args.self.now in
     let s = g.B.Bus.drives k.below in
-    let ms = c.stops.new.self.left in
+    let ms = c.access.new.self.left in
+    let at = c.args.at in
     let len = length c.args.buf.now in
-    let e = sym (ap g.B.Bus.drives c.if-stops.ensures.below) in
-    let h = c.if-stops.ensures.stops in
-    record {
-      reads = (refl, subst (λ v. Faults (marked s k.left) (marked v ms) c.args.d c.args.b len (Broken c.args.d c.args.b)) e (held_back s k.left ms c.args.d c.args.b len h));
-      counts = subst (λ v. Counts s v k.left ms c.args.d c.args.b len) e (counts_stopped s k.left ms c.args.d c.args.b len h);
-      fails = subst (λ v. FailsAsTold s v k.left ms c.args.d) e (fails_stopped s k.left ms c.args.d c.args.b len h);
-    }
+    let e = sym (ap g.B.Bus.drives c.in_err-access.ensures.below) in
+    let f = c.in_err-access.field-0.0 in
+    let p = err_from_is_err_and c.from_residual.result c.from_residual.ensures.1 in
+    rw (p.1, p.2) (refl, subst (λ v. Faults (marked s k.left) (marked v ms) at.drive at.block len f) e (held_back s k.left ms at.drive at.block len f c.in_err-access.ensures.stops))
 
-pub returns : goal.returns
-returns g c =
+pub returns-in_err-access-clause-fails : goal.returns-in_err-access-clause-fails
+returns-in_err-access-clause-fails g c =
+    let k = c.args.self.now in
+    let s = g.B.Bus.drives k.below in
+    let ms = c.access.new.self.left in
+    let at = c.args.at in
+    let e = sym (ap g.B.Bus.drives c.in_err-access.ensures.below) in
+    let f = c.in_err-access.field-0.0 in
+    subst (λ v. FailsAsTold s v k.left ms at.drive) e (fails_stopped s k.left ms at.drive at.block (length c.args.buf.now) f c.in_err-access.ensures.stops)
+
+pub returns-clause-reads : goal.returns-clause-reads
+returns-clause-reads g c =
     let k = c.args.self.now in
     let s = g.B.Bus.drives k.below in
     let t = g.B.Bus.drives c.read.new.self in
-    let ms = c.stops.new.self.left in
-    let len = length c.args.buf.now in
-    let e = ap g.B.Bus.drives c.if-stops.ensures.below in
-    let h = c.if-stops.ensures.stops in
-    record {
-      reads = reads_marked s t k.left ms c.args.d c.args.b c.args.buf.now c.read.new.buf c.read.result h
-          (subst (λ v. Reads v t c.args.d c.args.b c.args.buf.now c.read.new.buf c.read.result) e c.read.ensures);
-      counts = counts_through s k.left ms c.args.d c.args.b len t h;
-      fails = fails_through s k.left ms c.args.d c.args.b len t h;
-    }
+    let at = c.args.at in
+    let e = ap g.B.Bus.drives c.in_ok-access.ensures.below in
+    reads_marked s t k.left c.access.new.self.left at.drive at.block c.args.buf.now c.read.new.buf c.read.result c.in_ok-access.ensures.stops
+    (subst (λ v. Reads v t at.drive at.block c.args.buf.now c.read.new.buf c.read.result) e c.read.ensures)
+
+pub returns-clause-fails : goal.returns-clause-fails
+returns-clause-fails g c =
+    let k = c.args.self.now in
+    let s = g.B.Bus.drives k.below in
+    let t = g.B.Bus.drives c.read.new.self in
+    let at = c.args.at in
+    fails_through s k.left c.access.new.self.left at.drive at.block (length c.args.buf.now) t c.in_ok-access.ensures.stops

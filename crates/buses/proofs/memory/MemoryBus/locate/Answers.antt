@@ -1,29 +1,30 @@
-use Rattle.std.proofs.Common.{◌<◌, length, Some, subst, arith}
+use Rattle.std.proofs.Common.{◌<◌, length, arith}
+use Rattle.std.proofs.lemmas.Result.{err_from_is_err_and}
 use Rattle.buses.specs.Fitting.{fitting}
-use Rattle.buses.specs.Memory.{Refuses}
 use Rattle.buses.proofs.Locating.{refused, few_drives, small_drives, located}
 use Rattle.buses.proofs.memory.MemoryBus.locate.Goals as goal
 
-pub start_of-requires : goal.start_of-requires
-start_of-requires c =
+pub returns-in_err-reach : goal.returns-in_err-reach
+returns-in_err-reach c =
     let m = c.args.self.now in
-    let ok = c.in-None.ensures in
-    let dn : c.args.d < fitting (length m.bytes.now) m.number m.capacity = omega arith in
-    record {
-      few = few_drives m.bytes.now m.number m.capacity c.args.d c.args.b c.args.len dn;
-      small = small_drives m.bytes.now m.number m.capacity c.args.d c.args.b c.args.len dn;
-      within = ok.2;
-    }
+    let at = c.args.at in
+    let p = err_from_is_err_and c.from_residual.result c.from_residual.ensures.1 in
+    let no = rw c.present.ensures at c.in_err-reach.ensures in
+    rw (p.1, p.2) (refused m.bytes.now m.drives.number m.drives.capacity at.drive at.block c.args.len c.in_err-reach.field-0.0 no)
 
-pub returns-in-Some : goal.returns-in-Some
-returns-in-Some c =
+pub start_of-requires-clause-few : goal.start_of-requires-clause-few
+start_of-requires-clause-few c =
     let m = c.args.self.now in
-    refused m.bytes.now m.number m.capacity c.args.d c.args.b c.args.len c.in-Some.fault
-    (subst (λ k. Refuses k m.capacity c.args.d c.args.b c.args.len (Some c.in-Some.fault)) c.present.ensures c.in-Some.ensures)
+    few_drives m.bytes.now m.drives.number m.drives.capacity c.args.at.drive c.args.at.block c.args.len (omega (arith, c.present.ensures, c.in_ok-reach.ensures.0))
 
-pub returns-in-None : goal.returns-in-None
-returns-in-None c =
+pub start_of-requires-clause-small : goal.start_of-requires-clause-small
+start_of-requires-clause-small c =
     let m = c.args.self.now in
-    let ok = c.in-None.ensures in
-    let dn : c.args.d < fitting (length m.bytes.now) m.number m.capacity = omega arith in
-    located m.bytes.now m.number m.capacity c.args.d c.args.b c.args.len dn c.start_of.result ok.1 ok.2 c.start_of.ensures.value
+    small_drives m.bytes.now m.drives.number m.drives.capacity c.args.at.drive c.args.at.block c.args.len (omega (arith, c.present.ensures, c.in_ok-reach.ensures.0))
+
+pub returns : goal.returns
+returns c =
+    let m = c.args.self.now in
+    let ok = c.in_ok-reach.ensures in
+    let dn : c.args.at.drive < fitting (length m.bytes.now) m.drives.number m.drives.capacity = omega arith in
+    located m.bytes.now m.drives.number m.drives.capacity c.args.at.drive c.args.at.block c.args.len dn c.start_of.result ok.1 ok.2 c.start_of.ensures.value

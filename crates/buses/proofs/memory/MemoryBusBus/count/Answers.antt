@@ -6,4 +6,4 @@ use Rattle.buses.proofs.memory.MemoryBusBus.count.Goals as goal
 pub returns : goal.returns
 returns c =
     let m = c.args.self.now in
-    c.present.ensures ∙ sym (count_is m.bytes.now (fitting (length m.bytes.now) m.number m.capacity) m.capacity)
+    c.present.ensures ∙ sym (count_is m.bytes.now (fitting (length m.bytes.now) m.drives.number m.drives.capacity) m.drives.capacity)
