@@ -3,8 +3,7 @@ use Rattle.std.proofs.Common.{◌≡◌, ℕ, ◌<◌, List, [], length, get_or,
 use Rattle.std.proofs.lemmas.List.{get_or-set_same, get_or-set_other, length-set}
 use Rattle.std.proofs.lemmas.Bool.{cases_eq}
 use Rattle.bus.specs.declared.fault.BusFault.{BusFault}
-use Rattle.bus.specs.declared.fault.Cause.{Cause}
-use Rattle.bus.specs.declared.fault.Cause.TheVariants.{NoDrive, Length, Range, Broken}
+use Rattle.bus.specs.declared.fault.BusFault.TheVariants.{NoDrive, Length, Range, Broken}
 use Rattle.bus.specs.Drives.{Drive, Worse, at, size, block, stored, broke}
 use Rattle.bus.specs.Requests.{Reads, Writes, RefusedBy, Faults}
 use Rattle.bus.specs.Laws.{Elsewhere, WorseRefl, WorseTrans, WorseSound, WriteThenRead}
@@ -50,14 +49,14 @@ worse_broke s d h = record {
       (cases_eq k d);
 }
 
-refused_worsens : (s t : List Drive) (d b len : ℕ) (c : Cause) → RefusedBy s t d b len c → Worse s t
-refused_worsens s t d b len NoDrive q = worse_same q.same
-refused_worsens s t d b len Length q = worse_same q.same
-refused_worsens s t d b len Range q = worse_same q.same
-refused_worsens s t d b len Broken q = subst (λ v. Worse s v) (sym q.broken) (worse_broke s d q.placed.exists)
+refused_worsens : (s t : List Drive) (d b len : ℕ) (c : BusFault) → RefusedBy s t d b len c → Worse s t
+refused_worsens s t d b len (NoDrive a) q = worse_same q.same
+refused_worsens s t d b len (Length a) q = worse_same q.same
+refused_worsens s t d b len (Range a) q = worse_same q.same
+refused_worsens s t d b len (Broken a) q = subst (λ v. Worse s v) (sym q.broken) (worse_broke s d q.placed.exists)
 
 pub faults_worsen : (s t : List Drive) (d b len : ℕ) (e : BusFault) → Faults s t d b len e → Worse s t
-faults_worsen s t d b len e q = refused_worsens s t d b len e.cause q.1
+faults_worsen s t d b len e q = refused_worsens s t d b len e q.1
 
 pub reads_worsen : {U : Type 0} (s t : List Drive) (d b : ℕ) (was is : List ℕ) (r : Result U BusFault) → Reads s t d b was is r → Worse s t
 reads_worsen s t d b was is (Ok u) q = worse_same q.same
@@ -87,15 +86,15 @@ elsewhere_stored s d b xs h = record {
   stays = λ e. ap (λ v. v.broken) (at_set s d _ h) ∙ e;
 }
 
-refused_elsewhere : (s t : List Drive) (d b len : ℕ) (c : Cause) → RefusedBy s t d b len c → Elsewhere s t d b
-refused_elsewhere s t d b len NoDrive q = elsewhere_same s t d b q.same
-refused_elsewhere s t d b len Length q = elsewhere_same s t d b q.same
-refused_elsewhere s t d b len Range q = elsewhere_same s t d b q.same
-refused_elsewhere s t d b len Broken q =
+refused_elsewhere : (s t : List Drive) (d b len : ℕ) (c : BusFault) → RefusedBy s t d b len c → Elsewhere s t d b
+refused_elsewhere s t d b len (NoDrive a) q = elsewhere_same s t d b q.same
+refused_elsewhere s t d b len (Length a) q = elsewhere_same s t d b q.same
+refused_elsewhere s t d b len (Range a) q = elsewhere_same s t d b q.same
+refused_elsewhere s t d b len (Broken a) q =
     subst (λ v. Elsewhere s v d b) (sym q.broken) (elsewhere_broke s d b q.placed.exists)
 
 pub faults_elsewhere : (s t : List Drive) (d b len : ℕ) (e : BusFault) → Faults s t d b len e → Elsewhere s t d b
-faults_elsewhere s t d b len e q = refused_elsewhere s t d b len e.cause q.1
+faults_elsewhere s t d b len e q = refused_elsewhere s t d b len e q.1
 
 pub writes_elsewhere : {U : Type 0} (s t : List Drive) (d b : ℕ) (xs : List ℕ) (r : Result U BusFault) → Writes s t d b xs r → Elsewhere s t d b
 writes_elsewhere s t d b xs (Ok u) q = subst (λ v. Elsewhere s v d b) (sym q.stored) (elsewhere_stored s d b xs q.placed.exists)

@@ -1,32 +1,41 @@
 -- The numbers of the refusals, and what a fault names.
 use Rattle.std.specs.Prelude.{ℕ}
-use Rattle.bus.specs.declared.fault.Cause.{Cause}
-use Rattle.bus.specs.declared.fault.Cause.TheVariants.{NoDrive, Length, Range, Broken}
+use Rattle.bus.specs.declared.address.BlockAddress.{BlockAddress}
 use Rattle.bus.specs.declared.fault.BusFault.{BusFault}
-
-abbrev pub cause_number : Cause → ℕ
-cause_number NoDrive = 4
-cause_number Length = 6
-cause_number Range = 7
-cause_number Broken = 9
+use Rattle.bus.specs.declared.fault.BusFault.TheVariants.{NoDrive, Length, Range, Broken}
 
 abbrev pub number_of : BusFault → ℕ
-number_of f = cause_number f.cause
+number_of (NoDrive a) = 4
+number_of (Length a) = 6
+number_of (Range a) = 7
+number_of (Broken a) = 9
+
+abbrev pub address_of : BusFault → BlockAddress
+address_of (NoDrive a) = a
+address_of (Length a) = a
+address_of (Range a) = a
+address_of (Broken a) = a
 
 abbrev pub drive_of : BusFault → ℕ
-drive_of f = f.at.drive
+drive_of f = (address_of f).drive
 
 abbrev pub block_of : BusFault → ℕ
-block_of f = f.at.block
+block_of f = (address_of f).block
 
--- the fault of the drive d and the block b
-abbrev pub fault_at : Cause → ℕ → ℕ → BusFault
-fault_at c d b = record { cause = c; at = record { drive = d; block = b } }
+-- the block b of the drive d
+abbrev pub address : ℕ → ℕ → BlockAddress
+address d b = record { drive = d; block = b }
 
--- the fault of a broken drive
+-- the faults of a drive that is not there, and of a broken one
+abbrev pub no_drive_at : ℕ → ℕ → BusFault
+no_drive_at d b = NoDrive (address d b)
+
 abbrev pub broken_at : ℕ → ℕ → BusFault
-broken_at d b = fault_at Broken d b
+broken_at d b = Broken (address d b)
 
 -- the same fault of the drive d
 abbrev pub renumbered : ℕ → BusFault → BusFault
-renumbered d f = fault_at f.cause d f.at.block
+renumbered d (NoDrive a) = NoDrive (address d a.block)
+renumbered d (Length a) = Length (address d a.block)
+renumbered d (Range a) = Range (address d a.block)
+renumbered d (Broken a) = Broken (address d a.block)

@@ -2,8 +2,8 @@
 -- The answer comes by cases, and the premises of the cases exclude one another.
 use Rattle.std.specs.Prelude.{◌≡◌, ℕ, ◌<◌, ◌≤◌, false, List, length, Ok, Err, Result}
 use Rattle.bus.specs.declared.fault.BusFault.{BusFault}
-use Rattle.bus.specs.declared.fault.Cause.{Cause}
-use Rattle.bus.specs.declared.fault.Cause.TheVariants.{NoDrive, Length, Range, Broken}
+use Rattle.bus.specs.declared.fault.BusFault.TheVariants.{NoDrive, Length, Range, Broken}
+use Rattle.bus.specs.Numbers.{drive_of, block_of}
 use Rattle.bus.specs.Drives.{Drive, at, size, block, stored, broke}
 
 -- a request for the block b of the drive d, with a buffer of len bytes, that reaches its drive
@@ -37,15 +37,15 @@ pub record BrokenBy (s t : List Drive) (d b len : ℕ) : Type 0 where
   pub placed : Placed s d b len
   pub broken : t ≡ broke s d
 
--- what a refusal for each cause says, and leaves
-abbrev pub RefusedBy : List Drive → List Drive → ℕ → ℕ → ℕ → Cause → Type 0
-RefusedBy s t d b len NoDrive = NoDriveBy s t d
-RefusedBy s t d b len Length = LengthBy s t d len
-RefusedBy s t d b len Range = RangeBy s t d b len
-RefusedBy s t d b len Broken = BrokenBy s t d b len
+-- what each fault says, and leaves
+abbrev pub RefusedBy : List Drive → List Drive → ℕ → ℕ → ℕ → BusFault → Type 0
+RefusedBy s t d b len (NoDrive a) = NoDriveBy s t d
+RefusedBy s t d b len (Length a) = LengthBy s t d len
+RefusedBy s t d b len (Range a) = RangeBy s t d b len
+RefusedBy s t d b len (Broken a) = BrokenBy s t d b len
 
 abbrev pub Faults : List Drive → List Drive → ℕ → ℕ → ℕ → BusFault → Type 0
-Faults s t d b len f = Names d b f.at.drive f.at.block × RefusedBy s t d b len f.cause
+Faults s t d b len f = Names d b (drive_of f) (block_of f) × RefusedBy s t d b len f
 
 -- the buffer held `was`, and holds `is`
 pub record ReadBy (s t : List Drive) (d b : ℕ) (was is : List ℕ) : Type 0 where

@@ -1,40 +1,19 @@
 ghost use Rattle.std.specs.Prelude.{◌≡◌};
-ghost use Rattle.bus.specs.Numbers.{cause_number, number_of, drive_of, block_of, renumbered};
+ghost use Rattle.bus.specs.Numbers.{number_of, address_of, drive_of, block_of, renumbered};
 
 use crate::address::BlockAddress;
 
-// Why a request was refused.
+// Why a request was refused, with the block that it named.
 #[derive(Clone, Copy, PartialEq, Eq, Debug)]
-pub enum Cause {
+pub enum BusFault {
     // There is no such drive.
-    NoDrive,
+    NoDrive(BlockAddress),
     // The buffer is not one block long.
-    Length,
+    Length(BlockAddress),
     // The drive has no such block.
-    Range,
+    Range(BlockAddress),
     // The drive was broken already, or broke in this request.
-    Broken,
-}
-
-impl Cause {
-    // The number of the refusal.
-    pub fn number(self) -> u8
-        ensures { result ≡ cause_number self }
-    {
-        match self {
-            Cause::NoDrive => 4,
-            Cause::Length => 6,
-            Cause::Range => 7,
-            Cause::Broken => 9,
-        }
-    }
-}
-
-// Why a request was refused, with the drive and the block that it named.
-#[derive(Clone, Copy, PartialEq, Eq, Debug)]
-pub struct BusFault {
-    pub cause: Cause,
-    pub at: BlockAddress,
+    Broken(BlockAddress),
 }
 
 impl BusFault {
@@ -42,31 +21,49 @@ impl BusFault {
     pub fn number(self) -> u8
         ensures { result ≡ number_of self }
     {
-        self.cause.number()
+        match self {
+            BusFault::NoDrive(_) => 4,
+            BusFault::Length(_) => 6,
+            BusFault::Range(_) => 7,
+            BusFault::Broken(_) => 9,
+        }
+    }
+
+    // The block that the request named.
+    pub fn at(self) -> BlockAddress
+        ensures { result ≡ address_of self }
+    {
+        match self {
+            BusFault::NoDrive(at) | BusFault::Length(at) => at,
+            BusFault::Range(at) | BusFault::Broken(at) => at,
+        }
     }
 
     pub fn drive(self) -> usize
         ensures { result ≡ drive_of self }
     {
-        self.at.drive
+        self.at().drive
     }
 
     pub fn block(self) -> usize
         ensures { result ≡ block_of self }
     {
-        self.at.block
+        self.at().block
     }
 
     // The same fault of another drive.
     pub fn at_drive(self, d: usize) -> BusFault
         ensures { result ≡ renumbered d self }
     {
-        BusFault {
-            at: BlockAddress {
-                drive: d,
-                ..self.at
-            },
-            ..self
+        let at = BlockAddress {
+            drive: d,
+            ..self.at()
+        };
+        match self {
+            BusFault::NoDrive(_) => BusFault::NoDrive(at),
+            BusFault::Length(_) => BusFault::Length(at),
+            BusFault::Range(_) => BusFault::Range(at),
+            BusFault::Broken(_) => BusFault::Broken(at),
         }
     }
 }

@@ -7,7 +7,7 @@ pub mod interface;
 pub mod laws;
 
 pub use address::BlockAddress;
-pub use fault::{BusFault, Cause};
+pub use fault::BusFault;
 pub use interface::Bus;
 
 // The bytes of a block.

@@ -5,9 +5,8 @@ use Rattle.std.proofs.lemmas.Result.{err_from_is_err_and}
 use Rattle.std.proofs.lemmas.List.{length-set, set-append_left, set-append_right}
 use Rattle.std.proofs.lemmas.Bool.{cases_lt, true≢false}
 use Rattle.bus.specs.declared.fault.BusFault.{BusFault}
-use Rattle.bus.specs.declared.fault.Cause.{Cause}
-use Rattle.bus.specs.declared.fault.Cause.TheVariants.{NoDrive, Length, Range, Broken}
-use Rattle.bus.specs.Numbers.{fault_at, renumbered}
+use Rattle.bus.specs.declared.fault.BusFault.TheVariants.{NoDrive, Length, Range, Broken}
+use Rattle.bus.specs.Numbers.{address, no_drive_at, drive_of, renumbered}
 use Rattle.bus.specs.Drives.{Drive, at, size}
 use Rattle.bus.specs.Requests.{Placed, RefusedBy, Faults, Reads, Writes}
 use Rattle.buses.specs.Joined.{joined, renamed, FailsBelow, joined_all, count_all, count_none, at_first, at_second, at_neither}
@@ -26,18 +25,21 @@ module _ (up : List Drive → List Drive) (s t : List Drive) (d e : ℕ) (part :
   placed_part : (b len : ℕ) → Placed s e b len → Placed (up s) d b len
   placed_part b len p = record { exists = part.exists p.exists; whole = p.whole; within = omega (arith, size_part, p.within) }
 
-  refused_part : (b len : ℕ) (c : Cause) → RefusedBy s t e b len c → RefusedBy (up s) (up t) d b len c
-  refused_part b len NoDrive q = record { beyond = part.beyond q.beyond; same = ap up q.same }
-  refused_part b len Length q = record { exists = part.exists q.exists; other = q.other; same = ap up q.same }
-  refused_part b len Range q =
+  refused_part : (b len : ℕ) (c : BusFault) → RefusedBy s t e b len c → RefusedBy (up s) (up t) d b len c
+  refused_part b len (NoDrive a) q = record { beyond = part.beyond q.beyond; same = ap up q.same }
+  refused_part b len (Length a) q = record { exists = part.exists q.exists; other = q.other; same = ap up q.same }
+  refused_part b len (Range a) q =
       record { exists = part.exists q.exists; whole = q.whole; beyond = omega (arith, size_part, q.beyond); same = ap up q.same }
-  refused_part b len Broken q = record {
+  refused_part b len (Broken a) q = record {
     placed = placed_part b len q.placed;
     broken = ap up q.broken ∙ part.put _ q.placed.exists ∙ ap (λ (v : Drive). set (up s) d (record { blocks = v.blocks; broken = true })) (sym part.same);
   }
 
   faults_part : (b len : ℕ) (f : BusFault) → Faults s t e b len f → Faults (up s) (up t) d b len (renumbered d f)
-  faults_part b len f q = (record { drive = refl; place = q.0.place }, refused_part b len f.cause q.1)
+  faults_part b len (NoDrive a) q = (record { drive = refl; place = q.0.place }, refused_part b len (NoDrive a) q.1)
+  faults_part b len (Length a) q = (record { drive = refl; place = q.0.place }, refused_part b len (Length a) q.1)
+  faults_part b len (Range a) q = (record { drive = refl; place = q.0.place }, refused_part b len (Range a) q.1)
+  faults_part b len (Broken a) q = (record { drive = refl; place = q.0.place }, refused_part b len (Broken a) q.1)
 
   pub reads_part : {U : Type 0} (b : ℕ) (was is : List ℕ) (r z : Result U BusFault) → z ≡ renamed d r → Reads s t e b was is r → Reads (up s) (up t) d b was is z
   reads_part b was is (Ok u) z i q = subst (λ v. Reads (up s) (up t) d b was is v) (sym i) record {
@@ -62,13 +64,19 @@ renamed_by d P h (Ok u) z q = q
 renamed_by d P h (Err e) z q = let p = err_from_is_err_and z q in p.1 ∙ ap (λ f. Err f) (h e p.0 p.2)
 
 -- a fault that names the drive d is the same fault of it
+same_renumbered : (d : ℕ) (f : BusFault) → drive_of f ≡ d → f ≡ renumbered d f
+same_renumbered d (NoDrive a) e = ap (λ k. NoDrive (address k a.block)) e
+same_renumbered d (Length a) e = ap (λ k. Length (address k a.block)) e
+same_renumbered d (Range a) e = ap (λ k. Range (address k a.block)) e
+same_renumbered d (Broken a) e = ap (λ k. Broken (address k a.block)) e
+
 pub reads_named : {U : Type 0} (s t : List Drive) (d b : ℕ) (was is : List ℕ) (r : Result U BusFault) → Reads s t d b was is r → r ≡ renamed d r
 reads_named s t d b was is (Ok u) q = refl
-reads_named s t d b was is (Err f) q = ap (λ k. Err (fault_at f.cause k f.at.block)) q.1.0.drive
+reads_named s t d b was is (Err f) q = ap (λ v. Err v) (same_renumbered d f q.1.0.drive)
 
 pub writes_named : {U : Type 0} (s t : List Drive) (d b : ℕ) (xs : List ℕ) (r : Result U BusFault) → Writes s t d b xs r → r ≡ renamed d r
 writes_named s t d b xs (Ok u) q = refl
-writes_named s t d b xs (Err f) q = ap (λ k. Err (fault_at f.cause k f.at.block)) q.0.drive
+writes_named s t d b xs (Err f) q = ap (λ v. Err v) (same_renumbered d f q.0.drive)
 
 module _ (s t : List Drive) (d : ℕ) (few : length s + length t ≤ 16) where
   -- a drive of the first of two buses
@@ -98,7 +106,7 @@ module _ (s t : List Drive) (d : ℕ) (few : length s + length t ≤ 16) where
             ∙ ap (λ w. set w d v) (sym (joined_all s t few));
       }
 
-pub neither : (s t : List Drive) (d b len : ℕ) → 16 < length s + length t → Faults (joined s t) (joined s t) d b len (fault_at NoDrive d b)
+pub neither : (s t : List Drive) (d b len : ℕ) → 16 < length s + length t → Faults (joined s t) (joined s t) d b len (no_drive_at d b)
 neither s t d b len h = (record { drive = refl; place = refl }, record { beyond = omega (arith, count_none s t h); same = refl })
 
 -- what fails in the joined bus fails in one of the two

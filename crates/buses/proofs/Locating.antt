@@ -3,9 +3,8 @@ use Rattle.std.proofs.Common.{◌≡◌, ℕ, ◌+◌, ◌*◌, ◌<◌, ◌≤�
 use borrow.Rule.Slice.PartMut.{put_mid}
 use Rattle.std.proofs.lemmas.List.{length-append, length-take, length-drop, drop-drop}
 use Rattle.bus.specs.declared.fault.BusFault.{BusFault}
-use Rattle.bus.specs.declared.fault.Cause.{Cause}
-use Rattle.bus.specs.declared.fault.Cause.TheVariants.{NoDrive, Length, Range, Broken}
-use Rattle.bus.specs.Numbers.{cause_number}
+use Rattle.bus.specs.declared.fault.BusFault.TheVariants.{NoDrive, Length, Range, Broken}
+use Rattle.bus.specs.Numbers.{number_of}
 use Rattle.bus.specs.Requests.{RefusedBy, ReadBy, WroteBy}
 use Rattle.buses.specs.Image.{image}
 use Rattle.buses.specs.Images.{room, count_is, size_is, working_is, block_is}
@@ -21,17 +20,17 @@ module _ (xs : List ℕ) (n cap d b len : ℕ) where
   many = fitting (length xs) n cap
 
   -- what is wrong with a request is its fault
-  wrong : (c : Cause) → Wrong many cap d b len c → RefusedBy (held xs n cap) (held xs n cap) d b len c × (cause_number c ≢ 9)
-  wrong NoDrive q = (record { beyond = omega (arith, count_is xs many cap, q); same = refl }, λ e. omega arith)
-  wrong Length q = (record { exists = omega (arith, count_is xs many cap, q.0); other = q.1; same = refl }, λ e. omega arith)
-  wrong Range q = (
+  wrong : (c : BusFault) → Wrong many cap d b len c → RefusedBy (held xs n cap) (held xs n cap) d b len c × (number_of c ≢ 9)
+  wrong (NoDrive a) q = (record { beyond = omega (arith, count_is xs many cap, q); same = refl }, λ e. omega arith)
+  wrong (Length a) q = (record { exists = omega (arith, count_is xs many cap, q.0); other = q.1; same = refl }, λ e. omega arith)
+  wrong (Range a) q = (
     record { exists = omega (arith, count_is xs many cap, q.0); whole = q.1; beyond = omega (arith, size_is xs many cap d q.0, q.2); same = refl },
     λ e. omega arith,
   )
-  wrong Broken q = absurd q
+  wrong (Broken a) q = absurd q
 
   pub refused : (e : BusFault) → Refuses {U = Unit {0}} many cap d b len (Err e) → Locates xs n cap d b len (Err e)
-  refused e q = ((q.0, (wrong e.cause q.1).0), (wrong e.cause q.1).1)
+  refused e q = ((q.0, (wrong e q.1).0), (wrong e q.1).1)
 
   module _ (dn : d < many) where
     fit : Fit (length xs) n cap

@@ -3,8 +3,7 @@ use Rattle.std.proofs.Common.{◌≡◌, ℕ, ◌-◌, ◌<◌, ◌≤◌, Bool,
 use Rattle.std.proofs.lemmas.List.{get_or-set_same, get_or-set_other, length-set, ext_get_or, set-get_or, get_or_past, get_or-replicate}
 use Rattle.std.proofs.lemmas.Bool.{cases_eq, cases_lt, or_right, or_from, or_cases, or_parts, both_ways, eqb-true, eqb-false, eq-eqb, ne_eqb, cond-true, cond-false}
 use Rattle.bus.specs.declared.fault.BusFault.{BusFault}
-use Rattle.bus.specs.declared.fault.Cause.{Cause}
-use Rattle.bus.specs.declared.fault.Cause.TheVariants.{NoDrive, Length, Range, Broken}
+use Rattle.bus.specs.declared.fault.BusFault.TheVariants.{NoDrive, Length, Range, Broken}
 use Rattle.bus.specs.Numbers.{broken_at}
 use Rattle.bus.specs.Drives.{Drive, at, stored, broke, absent}
 use Rattle.bus.specs.Requests.{Placed, RefusedBy, Faults, Reads, Writes}
@@ -69,21 +68,21 @@ module _ (s : List Drive) (ls : List (Option ℕ)) (d b len : ℕ) where
     within = omega (arith, size_marked s ls d, p.within);
   }
 
-  refused_marked : (t : List Drive) (c : Cause) → RefusedBy s t d b len c → RefusedBy (marked s ls) (marked t ls) d b len c
-  refused_marked t NoDrive q = record { beyond = omega (arith, count_marked s ls, q.beyond); same = ap (λ v. marked v ls) q.same }
-  refused_marked t Length q =
+  refused_marked : (t : List Drive) (c : BusFault) → RefusedBy s t d b len c → RefusedBy (marked s ls) (marked t ls) d b len c
+  refused_marked t (NoDrive a) q = record { beyond = omega (arith, count_marked s ls, q.beyond); same = ap (λ v. marked v ls) q.same }
+  refused_marked t (Length a) q =
       record { exists = omega (arith, count_marked s ls, q.exists); other = q.other; same = ap (λ v. marked v ls) q.same }
-  refused_marked t Range q = record {
+  refused_marked t (Range a) q = record {
     exists = omega (arith, count_marked s ls, q.exists);
     whole = q.whole;
     beyond = omega (arith, size_marked s ls d, q.beyond);
     same = ap (λ v. marked v ls) q.same;
   }
-  refused_marked t Broken q =
+  refused_marked t (Broken a) q =
       record { placed = placed_marked q.placed; broken = ap (λ v. marked v ls) q.broken ∙ marked_broke s ls d q.placed.exists }
 
   faults_marked : (t : List Drive) (e : BusFault) → Faults s t d b len e → Faults (marked s ls) (marked t ls) d b len e
-  faults_marked t e q = (q.0, refused_marked t e.cause q.1)
+  faults_marked t e q = (q.0, refused_marked t e q.1)
 
 -- an access fewer: who works after it worked before, and who breaks by it had one left
 fewer_works : (x : Option ℕ) → gone (fewer x) ≡ false → gone x ≡ false

@@ -8,8 +8,7 @@ use Rattle.std.proofs.lemmas.List.FromFn.{length-map-range_with_len, get_or-map-
 use Rattle.std.proofs.lemmas.List.{get_or_past}
 use Rattle.std.proofs.lemmas.Bool.{cases_lt}
 use Rattle.bus.specs.declared.fault.BusFault.{BusFault}
-use Rattle.bus.specs.declared.fault.Cause.TheVariants.{NoDrive}
-use Rattle.bus.specs.Numbers.{fault_at, broken_at}
+use Rattle.bus.specs.Numbers.{no_drive_at, broken_at}
 use Rattle.bus.specs.Drives.{Drive, Sound, Fails, at, size, block, broke, absent}
 use Rattle.bus.specs.Requests.{Placed}
 
@@ -46,7 +45,7 @@ pub record ToldBy (s : List Drive) (ls ms : List (Option ℕ)) (d n : ℕ) : Typ
 
 pub record UntoldBy (s : List Drive) (ls ms : List (Option ℕ)) (d : ℕ) (e : BusFault) : Type 0 where
   pub beyond : length s ≤ d
-  pub fault : e ≡ fault_at NoDrive d 0
+  pub fault : e ≡ no_drive_at d 0
   pub same : ms ≡ ls
 
 abbrev pub Told : {U : Type 0} → List Drive → List (Option ℕ) → List (Option ℕ) → ℕ → ℕ → Result U BusFault → Type 0
@@ -60,7 +59,7 @@ pub record BrokeBy (s t : List Drive) (d : ℕ) : Type 0 where
 
 pub record NotBrokeBy (s t : List Drive) (d : ℕ) (e : BusFault) : Type 0 where
   pub beyond : length s ≤ d
-  pub fault : e ≡ fault_at NoDrive d 0
+  pub fault : e ≡ no_drive_at d 0
   pub same : t ≡ s
 
 abbrev pub Breaks : {U : Type 0} → List Drive → List Drive → ℕ → Result U BusFault → Type 0

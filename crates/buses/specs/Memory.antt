@@ -1,9 +1,8 @@
 -- The drives of a memory bus, and what its requests answer beyond the rule of every bus.
 use Rattle.std.specs.Prelude.{◌≡◌, ℕ, ◌+◌, ◌*◌, ◌<◌, ◌≤◌, List, ◌++◌, length, take, drop, Ok, Err, Result, ◌≢◌}
 use Rattle.bus.specs.declared.fault.BusFault.{BusFault}
-use Rattle.bus.specs.declared.fault.Cause.{Cause}
-use Rattle.bus.specs.declared.fault.Cause.TheVariants.{NoDrive, Length, Range, Broken}
-use Rattle.bus.specs.Numbers.{number_of}
+use Rattle.bus.specs.declared.fault.BusFault.TheVariants.{NoDrive, Length, Range, Broken}
+use Rattle.bus.specs.Numbers.{number_of, drive_of, block_of}
 use Rattle.bus.specs.Drives.{Drive}
 use Rattle.bus.specs.Requests.{Placed, Faults, Names}
 use Rattle.buses.specs.declared.memory.MemoryBus.{MemoryBus}
@@ -18,15 +17,15 @@ abbrev pub memory_drives : MemoryBus → List Drive
 memory_drives m = held m.bytes.now m.drives.number m.drives.capacity
 
 -- a request to one of n drives of cap blocks that never break, and what is wrong with it
-abbrev pub Wrong : ℕ → ℕ → ℕ → ℕ → ℕ → Cause → Type 0
-Wrong n cap d b len NoDrive = n ≤ d
-Wrong n cap d b len Length = (d < n) × (len ≢ 512)
-Wrong n cap d b len Range = (d < n) × (len ≡ 512) × (cap ≤ b)
-Wrong n cap d b len Broken = ⊥
+abbrev pub Wrong : ℕ → ℕ → ℕ → ℕ → ℕ → BusFault → Type 0
+Wrong n cap d b len (NoDrive a) = n ≤ d
+Wrong n cap d b len (Length a) = (d < n) × (len ≢ 512)
+Wrong n cap d b len (Range a) = (d < n) × (len ≡ 512) × (cap ≤ b)
+Wrong n cap d b len (Broken a) = ⊥
 
 abbrev pub Refuses : {U : Type 0} → ℕ → ℕ → ℕ → ℕ → ℕ → Result U BusFault → Type 0
 Refuses n cap d b len (Ok u) = (d < n) × (len ≡ 512) × (b < cap)
-Refuses n cap d b len (Err f) = Names d b f.at.drive f.at.block × Wrong n cap d b len f.cause
+Refuses n cap d b len (Err f) = Names d b (drive_of f) (block_of f) × Wrong n cap d b len f
 
 -- where the block b of the drive d begins
 pub record Located (xs : List ℕ) (n cap d b len a : ℕ) : Type 0 where

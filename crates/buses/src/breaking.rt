@@ -3,7 +3,7 @@ ghost use Rattle.bus.specs.Requests.{Reads, Writes};
 ghost use Rattle.buses.specs.Breaking.{gone, fewer, left_of, marked, sound_marked, Told, Breaks, Counts, FailsAsTold, Stops};
 
 use crate::misfit::Misfit;
-use bus::{BLOCK, BlockAddress, Bus, BusFault, Cause, MOST_DRIVES};
+use bus::{BLOCK, BlockAddress, Bus, BusFault, MOST_DRIVES};
 
 // Any bus, whose drives break when told to.
 #[derive(Drop)]
@@ -65,10 +65,7 @@ impl<B: Bus> BreakingBus<B> {
         ensures below { self.new.below ≡ self.old.below }
     {
         if d >= self.below.count() {
-            return Err(BusFault {
-                cause: Cause::NoDrive,
-                at: BlockAddress { drive: d, block: 0 },
-            });
+            return Err(BusFault::NoDrive(BlockAddress { drive: d, block: 0 }));
         }
         if !is_gone(self.left[d]) {
             self.left[d] = Some(n);
@@ -95,10 +92,7 @@ impl<B: Bus> BreakingBus<B> {
         let left = one_fewer(self.left[at.drive]);
         self.left[at.drive] = left;
         if is_gone(left) {
-            return Err(BusFault {
-                cause: Cause::Broken,
-                at,
-            });
+            return Err(BusFault::Broken(at));
         }
         Ok(())
     }

@@ -3,7 +3,7 @@ ghost use Rattle.bus.specs.Requests.{Reads, Writes};
 ghost use Rattle.buses.specs.Joined.{joined, sound_joined, FitsJoined, Lies, FailsBelow};
 
 use crate::misfit::Misfit;
-use bus::{BlockAddress, Bus, BusFault, Cause, MOST_DRIVES};
+use bus::{BlockAddress, Bus, BusFault, MOST_DRIVES};
 
 // Two buses as one: the drives of the second are numbered after those of the first.
 // One with more than 16 drives has none.
@@ -104,10 +104,7 @@ impl<A: Bus, B: Bus> Bus for JoinedBus<A, B> {
                 let read = self.second.read(BlockAddress { drive: e, ..at }, buf);
                 read.map_err(|fault| fault.at_drive(at.drive))
             }
-            None => Err(BusFault {
-                cause: Cause::NoDrive,
-                at,
-            }),
+            None => Err(BusFault::NoDrive(at)),
         }
     }
 
@@ -121,10 +118,7 @@ impl<A: Bus, B: Bus> Bus for JoinedBus<A, B> {
                 let written = self.second.write(BlockAddress { drive: e, ..at }, bytes);
                 written.map_err(|fault| fault.at_drive(at.drive))
             }
-            None => Err(BusFault {
-                cause: Cause::NoDrive,
-                at,
-            }),
+            None => Err(BusFault::NoDrive(at)),
         }
     }
 }

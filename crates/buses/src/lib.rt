@@ -15,7 +15,7 @@ pub use misfit::Misfit;
 #[cfg(test)]
 mod tests {
     use super::*;
-    use bus::{BlockAddress, Bus, BusFault, Cause};
+    use bus::{BlockAddress, Bus, BusFault};
 
     fn drives(number: usize, capacity: usize) -> Drives {
         Drives { number, capacity }
@@ -23,13 +23,6 @@ mod tests {
 
     fn at(drive: usize, block: usize) -> BlockAddress {
         BlockAddress { drive, block }
-    }
-
-    fn fault(cause: Cause, drive: usize, block: usize) -> BusFault {
-        BusFault {
-            cause,
-            at: at(drive, block),
-        }
     }
 
     #[test]
@@ -62,24 +55,24 @@ mod tests {
         assert_eq!(rt; bus.count(), 3);
         assert_eq!(rt; bus.write(at(2, 0), &buf), Ok(()));
         assert_eq!(rt; bus.break_in(2, 2), Ok(()));
-        assert_eq!(rt; bus.break_in(3, 1), Err(fault(Cause::NoDrive, 3, 0)));
+        assert_eq!(rt; bus.break_in(3, 1), Err(BusFault::NoDrive(at(3, 0))));
         assert_eq!(rt;
             bus.read(at(2, 1), &mut buf),
-            Err(fault(Cause::Range, 2, 1))
+            Err(BusFault::Range(at(2, 1)))
         );
         assert_eq!(rt;
             bus.read(at(2, 0), &mut buf[0..511]),
-            Err(fault(Cause::Length, 2, 0))
+            Err(BusFault::Length(at(2, 0)))
         );
         assert_eq!(rt; bus.read(at(2, 0), &mut buf), Ok(()));
         assert_eq!(rt;
             bus.read(at(2, 0), &mut buf),
-            Err(fault(Cause::Broken, 2, 0))
+            Err(BusFault::Broken(at(2, 0)))
         );
         assert!(rt; bus.broken(2) && !bus.broken(1) && bus.broken(3));
         assert_eq!(rt;
             bus.read(at(usize::MAX, 0), &mut buf),
-            Err(fault(Cause::NoDrive, usize::MAX, 0))
+            Err(BusFault::NoDrive(at(usize::MAX, 0)))
         );
     }
 
@@ -104,8 +97,8 @@ mod tests {
         assert_eq!(rt; second.break_now(1), Ok(()));
         let mut bus = JoinedBus::new(MemoryBus::new(&mut left, drives(1, 1)), second);
         let mut buf = [7u8; 512];
-        assert_eq!(rt; bus.write(at(2, 0), &buf), Err(fault(Cause::Broken, 2, 0)));
-        assert_eq!(rt; bus.write(at(3, 0), &buf), Err(fault(Cause::NoDrive, 3, 0)));
+        assert_eq!(rt; bus.write(at(2, 0), &buf), Err(BusFault::Broken(at(2, 0))));
+        assert_eq!(rt; bus.write(at(3, 0), &buf), Err(BusFault::NoDrive(at(3, 0))));
         assert_eq!(rt; bus.read(at(1, 0), &mut buf), Ok(()));
         assert!(rt; buf[511] == 1);
     }

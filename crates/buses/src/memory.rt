@@ -4,7 +4,7 @@ ghost use Rattle.buses.specs.Fitting.{FitsMemory, fitting, sound_fitting};
 ghost use Rattle.buses.specs.Memory.{held, memory_drives, Locates, Refuses, Unbroken, Overwrites};
 
 use crate::misfit::Misfit;
-use bus::{BLOCK, BlockAddress, Bus, BusFault, Cause, MOST_BLOCKS, MOST_DRIVES};
+use bus::{BLOCK, BlockAddress, Bus, BusFault, MOST_BLOCKS, MOST_DRIVES};
 
 // Drives of one capacity.
 #[derive(Clone, Copy, PartialEq, Eq, Debug)]
@@ -37,22 +37,13 @@ fn reach(drives: Drives, at: BlockAddress, len: usize) -> Result<(), BusFault>
     ensures { Refuses drives.number drives.capacity at.drive at.block len result }
 {
     if at.drive >= drives.number {
-        return Err(BusFault {
-            cause: Cause::NoDrive,
-            at,
-        });
+        return Err(BusFault::NoDrive(at));
     }
     if len != BLOCK {
-        return Err(BusFault {
-            cause: Cause::Length,
-            at,
-        });
+        return Err(BusFault::Length(at));
     }
     if at.block >= drives.capacity {
-        return Err(BusFault {
-            cause: Cause::Range,
-            at,
-        });
+        return Err(BusFault::Range(at));
     }
     Ok(())
 }
