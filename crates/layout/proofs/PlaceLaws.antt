@@ -6,7 +6,7 @@ use Rattle.layout.specs.Methods.{Sound, capped}
 use Rattle.layout.specs.Places.{strip, slot, line, protected, home_of, row_of, check_at, PlaceOf, HeldAt, OnePlaceEach}
 use Rattle.layout.proofs.Strips.{some_width, line_strip, line_below, slot_below, same_place, strip_at, slot_at, line_at, at_below}
 
-module _ {X : Type 0} (m : Ghosts X) (s : Sound m.least m.width m.cycle m.home m.check m.row m.tolerance)
+module _ {X : Type 0} (m : Ghosts X) (s : Sound m.LEAST m.width m.cycle m.home m.check m.row m.tolerance)
     (n k l : ℕ) (one : 1 ≤ n) (few : n ≤ 8) (kp : 1 ≤ k) (strips : l % k ≡ 0) where
   pub width_some : (q : ℕ) → q < protected m n l → 0 < m.width n
   width_some q h = some_width (m.width n) l q h

@@ -8,7 +8,7 @@ use Rattle.layout.specs.declared.geometry.Held.TheVariants.{User, Check}
 -- a group may have n members, depth k and l rows: l is a multiple of the depth, by the strips in which the check members
 -- come round
 pub record Fits {X : Type 0} (m : Ghosts X) (n k l : ℕ) : Type 0 where
-  pub least_members : m.least ≤ n
+  pub least_members : m.LEAST ≤ n
   pub most_members : n ≤ 8
   pub least_depth : 1 ≤ k
   pub most_depth : k ≤ 64

@@ -47,7 +47,7 @@ module _ {least : ℕ} {width cycle : ℕ → ℕ} {home : ℕ → ℕ → ℕ �
   carried x bs k e told = subst (λ (j : ℕ). (us : List (List ℕ)) → Blocks (width j) us → AgreeBut (check j t) bs (row j t us) → x ≡ row j t us) e told
 
 -- what `replace_user` leaves: bs is the recovered row, h the home, r the answer of `encode_row`
-pub replaced : {X : Type 0} (m : Ghosts X) (s : Sound m.least m.width m.cycle m.home m.check m.row m.tolerance)
+pub replaced : {X : Type 0} (m : Ghosts X) (s : Sound m.LEAST m.width m.cycle m.home m.check m.row m.tolerance)
     (t : ℕ) (missing : List Bool) (p : ℕ) (new : List ℕ) (was bs is : List (List ℕ)) (h : ℕ) (r : Bool) →
     Recoverable m missing was → p < m.width (length was) → Whole new → WholeRow m t missing was bs → length bs ≡ length was →
     h ≡ m.home (length was) t p → EncodesRow m t (slice_set bs h new) is r → ReplacesUser m t missing p new was is r

@@ -6,12 +6,12 @@ use Rattle.layout.specs.Methods.{Enough}
 
 -- the blocks of a row of as many members as the method may have
 pub record RightSize {X : Type 0} (m : Ghosts X) (was : List (List ℕ)) : Type 0 where
-  pub least_members : m.least ≤ length was
+  pub least_members : m.LEAST ≤ length was
   pub most_members : length was ≤ 8
 
 -- the members that are not missing are enough
 abbrev pub Recoverable : {X : Type 0} → Ghosts X → List Bool → List (List ℕ) → Type 0
-Recoverable m missing was = Enough m.least m.tolerance missing was
+Recoverable m missing was = Enough m.LEAST m.tolerance missing was
 
 -- of a row in strip t, whose blocks were `was` and are `is`
 module _ {X : Type 0} (m : Ghosts X) (t : ℕ) where

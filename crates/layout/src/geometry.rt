@@ -59,7 +59,7 @@ impl Geometry {
     pub fn check<M: Method>(members: usize, depth: usize, rows: usize) -> Result<(), Refusal>
         ensures { Answered (Fits M.Method members depth rows) (λ _. Unit {0}) OutOfRule result }
     {
-        if members < M::least_members() || members > MOST_MEMBERS {
+        if members < M::LEAST || members > MOST_MEMBERS {
             return Err(Refusal::OutOfRule);
         }
         if depth == 0 || depth > MOST_DEPTH {

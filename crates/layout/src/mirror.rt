@@ -11,7 +11,7 @@ pub struct Mirror;
 impl Method for Mirror {
     const LEAST: usize = 2;
 
-    ghost least = { 2 };
+    ghost LEAST = { 2 };
 
     ghost width = { copy_width };
 
@@ -26,10 +26,6 @@ impl Method for Mirror {
     ghost tolerance = { copy_tolerance };
 
     ghost sound = { copy_sound };
-
-    fn least_members() -> usize {
-        Self::LEAST
-    }
 
     fn tolerance_of(n: usize) -> usize {
         n.saturating_sub(1)

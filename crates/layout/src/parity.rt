@@ -19,7 +19,7 @@ pub fn parity_member(n: usize, t: usize) -> usize
 impl Method for Parity {
     const LEAST: usize = 3;
 
-    ghost least = { 3 };
+    ghost LEAST = { 3 };
 
     ghost width = { xor_width };
 
@@ -34,10 +34,6 @@ impl Method for Parity {
     ghost tolerance = { xor_tolerance };
 
     ghost sound = { xor_sound };
-
-    fn least_members() -> usize {
-        Self::LEAST
-    }
 
     fn tolerance_of(_n: usize) -> usize {
         1

@@ -23,7 +23,7 @@ pub fn recover_row<M: Method>(t: usize, blocks: &mut [Block], missing: &[bool]) 
     ensures { RecoversRow M.Method t missing.now blocks.old blocks.new result }
 {
     let n = blocks.len();
-    if n < M::least_members() || n > MOST_MEMBERS {
+    if n < M::LEAST || n > MOST_MEMBERS {
         return false;
     }
     if missing.len() != n {
@@ -52,7 +52,7 @@ pub fn encode_row<M: Method>(t: usize, blocks: &mut [Block]) -> bool
     ensures { EncodesRow M.Method t blocks.old blocks.new result }
 {
     let n = blocks.len();
-    if n < M::least_members() || n > MOST_MEMBERS {
+    if n < M::LEAST || n > MOST_MEMBERS {
         return false;
     }
     let mut marks = [false; 8];

@@ -11,7 +11,7 @@ pub struct Unprotected;
 impl Method for Unprotected {
     const LEAST: usize = 1;
 
-    ghost least = { 1 };
+    ghost LEAST = { 1 };
 
     ghost width = { none_width };
 
@@ -26,10 +26,6 @@ impl Method for Unprotected {
     ghost tolerance = { none_tolerance };
 
     ghost sound = { none_sound };
-
-    fn least_members() -> usize {
-        Self::LEAST
-    }
 
     fn tolerance_of(_n: usize) -> usize {
         0
