@@ -6,6 +6,7 @@ use crate::block::{Block, first_present};
 use crate::method::Method;
 
 /// The method copy. All members but one may be missing.
+#[derive(Clone, Copy, PartialEq, Eq, Debug)]
 pub struct Mirror;
 
 impl Method for Mirror {
@@ -60,12 +61,9 @@ impl Method for Mirror {
     }
 
     fn recover(_t: usize, blocks: &mut [Block], missing: &[bool]) {
-        let from = first_present(missing);
-        if from < blocks.len() {
+        if let Some(from) = first_present(missing).filter(|from| *from < blocks.len()) {
             let block = blocks[from];
-            for m in 0..blocks.len() {
-                blocks[m] = block;
-            }
+            blocks.fill(block);
         }
     }
 }

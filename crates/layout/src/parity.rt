@@ -7,13 +7,14 @@ use crate::block::{Block, first_missing, xor_block, xor_others};
 use crate::method::Method;
 
 /// The method XOR. One member may be missing.
+#[derive(Clone, Copy, PartialEq, Eq, Debug)]
 pub struct Parity;
 
 /// The check member of strip `t` with `n` members.
 pub fn parity_member(n: usize, t: usize) -> usize
     ensures { result ≡ t % n }
 {
-    if n == 0 { t } else { t % n }
+    t.checked_rem(n).unwrap_or(t)
 }
 
 impl Method for Parity {
@@ -70,8 +71,7 @@ impl Method for Parity {
     }
 
     fn recover(_t: usize, blocks: &mut [Block], missing: &[bool]) {
-        let m = first_missing(missing);
-        if m < blocks.len() {
+        if let Some(m) = first_missing(missing).filter(|m| *m < blocks.len()) {
             let block = xor_others(blocks, m);
             blocks[m] = block;
         }

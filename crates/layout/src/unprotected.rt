@@ -6,6 +6,7 @@ use crate::block::Block;
 use crate::method::Method;
 
 /// The method none. It tolerates no missing member.
+#[derive(Clone, Copy, PartialEq, Eq, Debug)]
 pub struct Unprotected;
 
 impl Method for Unprotected {
