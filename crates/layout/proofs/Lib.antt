@@ -1,3 +1,4 @@
 pub mod Overlaps
 pub mod PlaceLaws
 pub mod Strips
+pub mod Found

@@ -1,12 +1,11 @@
 -- Every method's places, from what it owes of each row. Assumes nothing.
-use Rattle.std.proofs.Common.{◌≡◌, ℕ, ◌+◌, ◌*◌, ◌/◌, ◌%◌, ◌<◌, ◌≤◌, false, sym, refl, ap, ◌∙◌, subst, arith}
+use Rattle.std.proofs.Common.{◌≡◌, ℕ, ◌+◌, ◌*◌, ◌/◌, ◌%◌, ◌<◌, ◌≤◌, true, false, Option, Some, None, MatchOption, option_map, sym, refl, ap, ◌∙◌, subst, arith}
 use Rattle.layout.specs.declared.method.Method.{Ghosts}
-use Rattle.layout.specs.declared.geometry.Held.TheVariants.{User}
 use Rattle.layout.specs.Methods.{Sound, capped}
 use Rattle.layout.specs.Places.{strip, slot, line, protected, home_of, row_of, check_at, PlaceOf, HeldAt, OnePlaceEach}
 use Rattle.layout.proofs.Strips.{some_width, line_strip, line_below, slot_below, same_place, strip_at, slot_at, line_at, at_below}
 
-module _ {X : Type 0} (m : Ghosts X) (s : Sound m.least m.width m.cycle m.home m.check m.row m.tolerance)
+module _ {X : Type 0} (m : Ghosts X) (s : Sound m.LEAST m.width m.cycle m.home m.check m.row m.tolerance)
     (n k l : ℕ) (one : 1 ≤ n) (few : n ≤ 8) (kp : 1 ≤ k) (strips : l % k ≡ 0) where
   pub width_some : (q : ℕ) → q < protected m n l → 0 < m.width n
   width_some q h = some_width (m.width n) l q h
@@ -70,12 +69,19 @@ module _ {X : Type 0} (m : Ghosts X) (s : Sound m.least m.width m.cycle m.home m
 
   -- what `held_at` answers, t being the strip and w the width
   pub held : (i r p t w : ℕ) → r < l → t ≡ r / k → w ≡ m.width n → p < m.width n → m.home n t p ≡ i →
-      HeldAt m n k l i r (User (t * (k * w) + (p * k + r % k)))
+      HeldAt m n k l i r (Some (t * (k * w) + (p * k + r % k)))
   held i r p t w hr e f lt at =
       let z = found r p hr lt in
-      subst (λ (x : ℕ). HeldAt m n k l i r (User (x * (k * w) + (p * k + r % k)))) (sym e)
-      (subst (λ (x : ℕ). HeldAt m n k l i r (User (r / k * (k * x) + (p * k + r % k)))) (sym f)
+      subst (λ (x : ℕ). HeldAt m n k l i r (Some (x * (k * w) + (p * k + r % k)))) (sym e)
+      (subst (λ (x : ℕ). HeldAt m n k l i r (Some (r / k * (k * x) + (p * k + r % k)))) (sym f)
       (z.0, z.1 ∙ ap (λ (x : ℕ). m.home n x p) (sym e) ∙ at, z.2))
+
+  -- p being what `slot_at` answers
+  pub held_map : (i r : ℕ) (p : Option ℕ) (t w : ℕ) → r < l → t ≡ r / k → w ≡ m.width n →
+      MatchOption p (m.check n t i ≡ true) (λ s. (s < m.width n) × (m.home n t s ≡ i)) →
+      HeldAt m n k l i r (option_map (λ s. t * (k * w) + (s * k + r % k)) p)
+  held_map i r (Some p) t w hr e f at = held i r p t w hr e f at.0 at.1
+  held_map i r None t w hr e f at = ap (λ (x : ℕ). m.check n x i) (sym e) ∙ at
 
   pub one_place_each : OnePlaceEach m n k l
   one_place_each = record {

@@ -1,14 +1,12 @@
 -- The geometry of a group, and the place of its blocks: n members, depth k, l rows. Assumes nothing.
-use Rattle.std.specs.Prelude.{◌≡◌, ℕ, ◌+◌, ◌*◌, ◌/◌, ◌%◌, ◌<◌, ◌≤◌, Bool, true, false}
+use Rattle.std.specs.Prelude.{◌≡◌, ℕ, ◌+◌, ◌*◌, ◌/◌, ◌%◌, ◌<◌, ◌≤◌, Bool, true, false, Option, Some, None}
 use Rattle.layout.specs.declared.method.Method.{Ghosts}
 use Rattle.layout.specs.declared.geometry.Place.{Place}
-use Rattle.layout.specs.declared.geometry.Held.{Held}
-use Rattle.layout.specs.declared.geometry.Held.TheVariants.{User, Check}
 
 -- a group may have n members, depth k and l rows: l is a multiple of the depth, by the strips in which the check members
 -- come round
 pub record Fits {X : Type 0} (m : Ghosts X) (n k l : ℕ) : Type 0 where
-  pub least_members : m.least ≤ n
+  pub least_members : m.LEAST ≤ n
   pub most_members : n ≤ 8
   pub least_depth : 1 ≤ k
   pub most_depth : k ≤ 64
@@ -65,7 +63,7 @@ module _ {X : Type 0} (m : Ghosts X) (n k : ℕ) where
         (q : ℕ) × (q < protected m n l) × (home_of q ≡ i) × (row_of q ≡ r) ×
         ((p : ℕ) → p < protected m n l → home_of p ≡ i → row_of p ≡ r → p ≡ q)
 
-  -- what the block of member i in row r is
-  abbrev pub HeldAt : ℕ → ℕ → ℕ → Held → Type 0
-  HeldAt l i r (User q) = (q < protected m n l) × (home_of q ≡ i) × (row_of q ≡ r)
-  HeldAt l i r Check = check_at i r ≡ true
+  -- which protected block the block of member i in row r is, or none where it is check data
+  abbrev pub HeldAt : ℕ → ℕ → ℕ → Option ℕ → Type 0
+  HeldAt l i r (Some q) = (q < protected m n l) × (home_of q ≡ i) × (row_of q ≡ r)
+  HeldAt l i r None = check_at i r ≡ true

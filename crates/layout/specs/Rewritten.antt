@@ -1,9 +1,10 @@
 -- What a method's law gives of a row that is written. Assumes nothing.
-use Rattle.std.specs.Prelude.{◌≡◌, ℕ, ◌<◌, ◌≤◌, Bool, true, false, ◌≢◌, List, [], length, slice_index_or, slice_set}
+use Rattle.std.specs.Prelude.{◌≡◌, ℕ, ◌<◌, ◌≤◌, Bool, Ok, Err, Result, ◌≢◌, List, [], length, slice_index_or, slice_set}
 use Rattle.std.proofs.Common.{sym, ap, subst, ◌∙◌, ⊎_elim, arith, length-set, get_or-set_same, get_or-set_other}
 use Rattle.std.proofs.lemmas.Bool.{cases_eq}
 use Rattle.layout.specs.Blocks.{Whole, Blocks, AgreeBut}
 use Rattle.layout.specs.declared.method.Method.{Ghosts}
+use Rattle.layout.specs.declared.row.RowError.{RowError}
 use Rattle.layout.specs.Methods.{Sound}
 use Rattle.layout.specs.Rows.{Recoverable, WholeRow, EncodesRow, ReplacesUser}
 
@@ -47,20 +48,20 @@ module _ {least : ℕ} {width cycle : ℕ → ℕ} {home : ℕ → ℕ → ℕ �
   carried x bs k e told = subst (λ (j : ℕ). (us : List (List ℕ)) → Blocks (width j) us → AgreeBut (check j t) bs (row j t us) → x ≡ row j t us) e told
 
 -- what `replace_user` leaves: bs is the recovered row, h the home, r the answer of `encode_row`
-pub replaced : {X : Type 0} (m : Ghosts X) (s : Sound m.least m.width m.cycle m.home m.check m.row m.tolerance)
-    (t : ℕ) (missing : List Bool) (p : ℕ) (new : List ℕ) (was bs is : List (List ℕ)) (h : ℕ) (r : Bool) →
+pub replaced : {X : Type 0} (m : Ghosts X) (s : Sound m.LEAST m.width m.cycle m.home m.check m.row m.tolerance)
+    (t : ℕ) (missing : List Bool) (p : ℕ) (new : List ℕ) (was bs is : List (List ℕ)) (h : ℕ) (r : Result (Unit {0}) RowError) →
     Recoverable m missing was → p < m.width (length was) → Whole new → WholeRow m t missing was bs → length bs ≡ length was →
     h ≡ m.home (length was) t p → EncodesRow m t (slice_set bs h new) is r → ReplacesUser m t missing p new was is r
-replaced m s t missing p new was bs is h true enough lt w rec long e enc =
+replaced m s t missing p new was bs is h (Ok u) enough lt w rec long at enc =
     let n = length was in (
       enough,
       lt,
       λ us u agree.
           carried s n t enough.least_members enough.most_members is (slice_set bs h new) (length (slice_set bs h new)) (length-set bs h new ∙ long)
           enc.1 (slice_set us p new) (set_blocks (m.width n) us p new u w)
-          (subst (λ (i : ℕ). AgreeBut (m.check n t) (slice_set bs i new) (m.row n t (slice_set us p new))) (sym e)
+          (subst (λ (i : ℕ). AgreeBut (m.check n t) (slice_set bs i new) (m.row n t (slice_set us p new))) (sym at)
           (written s n t enough.least_members enough.most_members us bs p new u lt w (rec us u agree))),
     )
-replaced m s t missing p new was bs is h false enough lt w rec long e enc =
+replaced m s t missing p new was bs is h (Err e) enough lt w rec long at enc =
     let same : length (slice_set bs h new) ≡ length was = length-set bs h new ∙ long in
     absurd (enc.0 (record { least_members = omega (arith, enough.least_members); most_members = omega (arith, enough.most_members) }))

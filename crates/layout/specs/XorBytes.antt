@@ -1,11 +1,11 @@
 -- The laws of the bytewise exclusive or. Assumes nothing.
-use Rattle.std.specs.Prelude.{◌≡◌, ℕ, zero, suc, ◌+◌, ◌<◌, ◌≤◌, min, List, [], ◌∷◌, length, get_or, take, drop, set, replicate, bit_xor, slice_index, slice_index_or, slice_set, refl}
-use Rattle.std.proofs.Common.{sym, ap, subst, ◌∙◌, ⊎_elim, not-suc-le-zero, le_of_suc-le-suc, add-one, arith, take_all}
-use Rattle.std.proofs.lemmas.List.{at_drop_more, at_drop_all}
-use Rattle.std.proofs.lemmas.Bool.{cases_lt}
+use Rattle.std.specs.Prelude.{◌≡◌, ℕ, zero, suc, ◌+◌, ◌<◌, ◌≤◌, List, [], ◌∷◌, length, get_or, take, drop, replicate, bit_xor, slice_index, slice_index_or, slice_set, refl}
+use Rattle.std.proofs.Common.{sym, ap, subst, ◌∙◌, not-suc-le-zero, le_of_suc-le-suc, add-one, arith}
+use Rattle.std.proofs.Math.Seq.{take-nil}
+use Rattle.std.proofs.lemmas.List.{at_drop_more, at_drop_all, set-get_or}
 use Rattle.std.proofs.lemmas.Nat.{xor_comm, xor_lt}
 use Rattle.std.specs.Int.Bits.{xor_assoc, xor_self, xor_zero_r}
-use Rattle.layout.specs.Blocks.{xor, xor_all, mixed, put_in, Whole, XorLaws}
+use Rattle.layout.specs.Blocks.{xor, xor_all, put_in, Whole, XorLaws}
 
 pub nil_r : (xs : List ℕ) → xor xs [] ≡ xs
 nil_r [] = refl
@@ -56,14 +56,15 @@ pub xor_laws : XorLaws
 xor_laws = record { bytewise = get_or_xor; commutes = comm; associates = assoc; zeros = zeros; cancels = inverse; keeps_length = length_xor; stays_whole = xor_whole }
 
 -- one byte more
-step : (d s : List ℕ) (i : ℕ) → i < length d → i < length s → slice_set (xor d (take i s)) i (bit_xor (slice_index (xor d (take i s)) i) (slice_index s i)) ≡ xor d (take (suc i) s)
-step [] s i h k = absurd (not-suc-le-zero h)
-step (x ∷ d) [] i h k = absurd (not-suc-le-zero k)
-step (x ∷ d) (y ∷ s) zero h k = ap (λ (l : List ℕ). bit_xor x y ∷ l) (sym (nil_r d))
-step (x ∷ d) (y ∷ s) (suc i) h k = ap (λ (l : List ℕ). bit_xor x y ∷ l) (step d s i (le_of_suc-le-suc h) (le_of_suc-le-suc k))
+step : (d s : List ℕ) (i : ℕ) → i < length d → slice_set (xor d (take i s)) i (bit_xor (slice_index (xor d (take i s)) i) (slice_index s i)) ≡ xor d (take (suc i) s)
+step [] s i h = absurd (not-suc-le-zero h)
+step (x ∷ d) [] i h = rw (take-nil, xor_zero_r) (set-get_or (x ∷ d) i 0)
+step (x ∷ d) (y ∷ s) zero h = ap (λ (l : List ℕ). bit_xor x y ∷ l) (sym (nil_r d))
+step (x ∷ d) (y ∷ s) (suc i) h = ap (λ (l : List ℕ). bit_xor x y ∷ l) (step d s i (le_of_suc-le-suc h))
 
-pub more : (d s : List ℕ) (i : ℕ) → i < length d → i < length s → slice_set (xor d (take i s)) i (bit_xor (slice_index (xor d (take i s)) i) (slice_index s i)) ≡ xor d (take (i + 1) s)
-more d s i h k = rw add-one (step d s i h k)
+-- the loop of `xor_into`: d' is dst where the turn begins
+pub xor_step : (d' d s : List ℕ) (i : ℕ) → d' ≡ xor d (take i s) → i < length d → slice_set d' i (bit_xor (slice_index d' i) (slice_index s i)) ≡ xor d (take (i + 1) s)
+xor_step d' d s i e h = rw (e, add-one) (step d s i h)
 
 pub all_insert : (c : ℕ) (x : List ℕ) (us : List (List ℕ)) → xor_all (put_in c x us) ≡ xor x (xor_all us)
 all_insert zero x us = refl
@@ -79,19 +80,6 @@ all_set zero (u ∷ us) = refl
 all_set (suc m) (u ∷ us) =
     sym (assoc (slice_index_or us m []) u (xor_all (slice_set us m []))) ∙ ap (λ (l : List ℕ). xor l (xor_all (slice_set us m []))) (comm (slice_index_or us m []) u)
     ∙ assoc u (slice_index_or us m []) (xor_all (slice_set us m [])) ∙ ap (xor u) (all_set m us)
-
--- the loop of `xor_into`: d' is dst where the turn begins
-pub again : (d' d s : List ℕ) (i : ℕ) → d' ≡ xor d (take i s) → i < length d → i < length s → slice_set d' i (bit_xor (slice_index d' i) (slice_index s i)) ≡ xor d (take (i + 1) s)
-again d' d s i e h k = ap (λ (x : List ℕ). set x i (bit_xor (slice_index x i) (slice_index s i))) e ∙ more d s i h k
-
--- as many bytes as both have are as many as d has, or all of s
-pub take_both : (s : List ℕ) (i n : ℕ) → i ≡ min n (length s) → take i s ≡ take n s
-take_both s i n e =
-    ⊎_elim (λ (h : n < length s). let f : i ≡ n = omega arith in ap (λ (k : ℕ). take k s) f)
-    (λ (h : length s ≤ n). take_all i s (omega arith) ∙ sym (take_all n s h)) (cases_lt n (length s))
-
-pub ends : (d' d s : List ℕ) (i : ℕ) → d' ≡ xor d (take i s) → i ≡ min (length d) (length s) → d' ≡ mixed d s
-ends d' d s i e h = e ∙ ap (xor d) (take_both s i (length d) h)
 
 module _ (all : List ℕ) (bs : List (List ℕ)) (i : ℕ) (h : i < length bs) where
   -- one block more

@@ -1,27 +1,22 @@
 //! Blocks of 512 bytes, their bytewise exclusive or, and marks of missing members.
-ghost use Rattle.std.specs.Prelude.{◌≡◌, ℕ, ◌<◌, [], length, replicate, slice_index, slice_set};
+ghost use Rattle.std.specs.Prelude.{SomeIff, ◌≡◌, ℕ, ◌<◌, [], length, replicate, slice_index, slice_set};
 ghost use Rattle.layout.specs.Blocks.{xor, xor_all, mixed, missing_count, first_missing, first_present, XorLaws};
 
 /// The bytes of a block.
 pub type Block = [u8; 512];
 
-// Lends `_s`, and does no more.
-fn look(_s: &[u8]) {}
-
 /// That the bytes of a slice fit their type, as a fact for proofs.
 pub fn bytes_fit(s: &[u8])
     ensures { (j : ℕ) → slice_index s.now j < 256 }
-{
-    look(s);
-}
+{}
 
 /// Each byte of `dst` becomes its exclusive or with that of `src`; a byte beyond the end of `src` stays.
 pub fn xor_into(dst: &mut [u8], src: &[u8])
     ensures { dst.new ≡ mixed dst.old src.now }
 {
-    let n = dst.len().min(src.len());
-    for i in 0..n {
-        dst[i] ^= src[i];
+    // No zip: after an adapter of `iter_mut` the check knows nothing of `dst`.
+    for (i, byte) in dst.iter_mut().enumerate() {
+        *byte ^= src.get(i).copied().unwrap_or(0);
     }
 }
 
@@ -37,9 +32,9 @@ pub fn xor_others(blocks: &[Block], m: usize) -> Block
     ensures { result ≡ xor (replicate 512 0) (xor_all (slice_set blocks.now m [])) }
 {
     let mut all = [0; 512];
-    for i in 0..blocks.len() {
+    for (i, block) in blocks.iter().enumerate() {
         if i != m {
-            xor_block(&mut all, &blocks[i]);
+            xor_block(&mut all, block);
         }
     }
     all
@@ -49,37 +44,23 @@ pub fn xor_others(blocks: &[Block], m: usize) -> Block
 pub fn count_missing(missing: &[bool]) -> usize
     ensures { result ≡ missing_count missing.now }
 {
-    let mut count = 0;
-    for i in 0..missing.len() {
-        if missing[i] {
-            count += 1;
-        }
-    }
-    count
+    missing.iter().filter(|gone| **gone).count()
 }
 
-/// The first missing member, or how many members there are.
-pub fn first_missing(missing: &[bool]) -> usize
-    ensures { result ≡ first_missing missing.now }
+// Two searches and not one by the mark that is looked for: each is one line, and names what it finds.
+
+/// The first missing member, if there is one.
+pub fn first_missing(missing: &[bool]) -> Option<usize>
+    ensures { SomeIff result (first_missing missing.now < length missing.now) (first_missing missing.now) }
 {
-    for m in 0..missing.len() {
-        if missing[m] {
-            return m;
-        }
-    }
-    missing.len()
+    missing.iter().position(|gone| *gone)
 }
 
-/// The first member that is not missing, or how many members there are.
-pub fn first_present(missing: &[bool]) -> usize
-    ensures { result ≡ first_present missing.now }
+/// The first member that is not missing, if there is one.
+pub fn first_present(missing: &[bool]) -> Option<usize>
+    ensures { SomeIff result (first_present missing.now < length missing.now) (first_present missing.now) }
 {
-    for present in 0..missing.len() {
-        if !missing[present] {
-            return present;
-        }
-    }
-    missing.len()
+    missing.iter().position(|gone| !*gone)
 }
 
 /// The laws of the exclusive or hold.

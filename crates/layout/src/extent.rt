@@ -7,7 +7,7 @@ ghost use Rattle.layout.specs.Extents.{Sound, Covers, Overlap};
 pub const MOST_BLOCKS: usize = 65536;
 
 /// An extent as tables and lists hold it: any numbers at all.
-#[derive(Clone, Copy)]
+#[derive(Clone, Copy, PartialEq, Eq, Debug)]
 pub struct ExtentRow {
     pub drive: usize,
     pub start: usize,
@@ -15,7 +15,7 @@ pub struct ExtentRow {
 }
 
 /// At least one block of a drive, ending at or below block 65,536.
-#[derive(Clone, Copy)]
+#[derive(Clone, Copy, PartialEq, Eq, Debug)]
 pub struct Extent {
     row: ExtentRow,
     ghost some: { 1 ≤ row.count },
@@ -23,17 +23,14 @@ pub struct Extent {
 }
 
 impl Extent {
+    // No TryFrom: a row is no extent for one reason alone, which an error type would only name again.
+
     /// The extent of a row: one, exactly where the row has a block and ends at or below block 65,536.
     pub fn new(row: ExtentRow) -> Option<Extent>
         ensures { MatchOption result (Sound row → ⊥) (λ e. Sound row × (e.row ≡ row)) }
     {
-        if row.count == 0 {
-            return None;
-        }
-        if row.start > MOST_BLOCKS {
-            return None;
-        }
-        if row.count > MOST_BLOCKS - row.start {
+        let end = row.start.checked_add(row.count)?;
+        if row.count == 0 || end > MOST_BLOCKS {
             return None;
         }
         Some(Extent { row })
@@ -79,36 +76,22 @@ impl Extent {
     pub fn block(&self, r: usize) -> Option<usize>
         ensures { SomeIff result (r < self.now.row.count) (self.now.row.start + r) }
     {
-        if r < self.row.count {
-            Some(self.row.start + r)
-        } else {
-            None
-        }
+        (r < self.row.count).then(|| self.row.start + r)
     }
 
     /// Whether block `b` of drive `d` lies in the extent.
     pub fn covers(&self, d: usize, b: usize) -> bool
         ensures { MatchBool result (Covers self.now.row d b) (Covers self.now.row d b → ⊥) }
     {
-        if d != self.row.drive {
-            return false;
-        }
-        if b < self.row.start {
-            return false;
-        }
-        b < self.end()
+        d == self.row.drive && (self.row.start..self.end()).contains(&b)
     }
 
     /// Whether some block of one drive lies in both.
     pub fn overlaps(&self, other: &Extent) -> bool
         ensures { MatchBool result (Overlap self.now.row other.now.row) (Overlap self.now.row other.now.row → ⊥) }
     {
-        if self.row.drive != other.row.drive {
-            return false;
-        }
-        if self.end() <= other.row.start {
-            return false;
-        }
-        other.end() > self.row.start
+        self.row.drive == other.row.drive
+            && self.end() > other.row.start
+            && other.end() > self.row.start
     }
 }

@@ -1,5 +1,5 @@
 //! The geometry of a group, and the place of every block.
-ghost use Rattle.std.specs.Prelude.{◌≡◌, ℕ, ◌+◌, ◌*◌, ◌/◌, ◌%◌, ◌<◌, ◌≤◌, true, MatchOption};
+ghost use Rattle.std.specs.Prelude.{◌≡◌, ℕ, ◌+◌, ◌*◌, ◌/◌, ◌%◌, ◌<◌, ◌≤◌, ◌↔◌, true, IsTrue, MatchOption};
 ghost use Rattle.layout.specs.declared.refusal.Refusal.TheVariants.{OutOfRule, Outside};
 ghost use Rattle.layout.specs.Refusals.{Answered, AnsweredBoth};
 ghost use Rattle.layout.specs.Places.{Fits, PlaceOf, OnePlaceEach, HeldAt, protected};
@@ -10,6 +10,13 @@ use crate::refusal::Refusal;
 /// The most members of a group.
 pub const MOST_MEMBERS: usize = 8;
 
+// Whether a group by the method `M` may have `n` members.
+pub(crate) fn members_fit<M: Method>(n: usize) -> bool
+    ensures { IsTrue result ↔ ((M.Method.LEAST ≤ n) × (n ≤ 8)) }
+{
+    (M::LEAST..=MOST_MEMBERS).contains(&n)
+}
+
 /// The most blocks to the depth of a strip.
 pub const MOST_DEPTH: usize = 64;
 
@@ -17,7 +24,7 @@ pub const MOST_DEPTH: usize = 64;
 pub const MOST_ROWS: usize = 65536;
 
 /// The place of a protected block.
-#[derive(Clone, Copy)]
+#[derive(Clone, Copy, PartialEq, Eq, Debug)]
 pub struct Place {
     /// Its home.
     pub member: usize,
@@ -29,17 +36,8 @@ pub struct Place {
     pub slot: usize,
 }
 
-/// What a block of a member is.
-#[derive(Clone, Copy)]
-pub enum Held {
-    /// This protected block.
-    User(usize),
-    /// Check data.
-    Check,
-}
-
 /// The members, the stripe depth and the rows of a group.
-#[derive(Clone, Copy)]
+#[derive(Clone, Copy, PartialEq, Eq, Debug)]
 pub struct Geometry {
     members: usize,
     depth: usize,
@@ -59,17 +57,11 @@ impl Geometry {
     pub fn check<M: Method>(members: usize, depth: usize, rows: usize) -> Result<(), Refusal>
         ensures { Answered (Fits M.Method members depth rows) (λ _. Unit {0}) OutOfRule result }
     {
-        if members < M::least_members() || members > MOST_MEMBERS {
-            return Err(Refusal::OutOfRule);
-        }
-        if depth == 0 || depth > MOST_DEPTH {
-            return Err(Refusal::OutOfRule);
-        }
-        if rows == 0 {
+        if !members_fit::<M>(members) || !(1..=MOST_DEPTH).contains(&depth) || rows == 0 {
             return Err(Refusal::OutOfRule);
         }
         let unit = depth * M::cycle_of(members);
-        if rows % unit != 0 {
+        if !rows.is_multiple_of(unit) {
             return Err(Refusal::OutOfRule);
         }
         Ok(())
@@ -146,21 +138,17 @@ impl Geometry {
         })
     }
 
-    /// What the block of a member in a row is: a protected block, or check data.
-    pub fn held_at<M: Method>(&self, member: usize, row: usize) -> Result<Held, Refusal>
+    /// Which protected block the block of a member in a row is; none where it is check data.
+    pub fn held_at<M: Method>(&self, member: usize, row: usize) -> Result<Option<usize>, Refusal>
         ensures { Answered ((member < self.now.members) × (row < self.now.rows)) (HeldAt M.Method self.now.members self.now.depth self.now.rows member row) Outside result }
     {
         if member >= self.members || row >= self.rows {
             return Err(Refusal::Outside);
         }
         let strip = self.strip_of(row);
-        match slot_at::<M>(self.members, strip, member) {
-            Some(slot) => {
-                let ahead = strip * (self.depth * M::width_of(self.members));
-                Ok(Held::User(ahead + (slot * self.depth + row % self.depth)))
-            }
-            None => Ok(Held::Check),
-        }
+        let ahead = strip * (self.depth * M::width_of(self.members));
+        let slot = slot_at::<M>(self.members, strip, member);
+        Ok(slot.map(|slot| ahead + (slot * self.depth + row % self.depth)))
     }
 }
 
@@ -169,10 +157,5 @@ fn slot_at<M: Method>(n: usize, t: usize, m: usize) -> Option<usize>
     requires { (1 ≤ n) × ((n ≤ 8) × (m < n)) }
     ensures { MatchOption result (M.Method.check n t m ≡ true) (λ p. (p < M.Method.width n) × (M.Method.home n t p ≡ m)) }
 {
-    for p in 0..M::width_of(n) {
-        if M::home_of(n, t, p) == m {
-            return Some(p);
-        }
-    }
-    None
+    (0..M::width_of(n)).find(|p| M::home_of(n, t, *p) == m)
 }

@@ -4,6 +4,10 @@ ghost use Rattle.layout.specs.Methods.{Sound, Recovers, Updates, capped};
 
 use crate::block::Block;
 
+// `n` and `t` are no struct: `width_of`, `cycle_of` and `tolerance_of` have no strip, and `recover` has `n` from its row.
+// `blocks` and `missing` are no slice of options: a recovered row is plain blocks, and of a row whose blocks don't agree no
+// clause could say that they are all there.
+
 /// A method of redundancy: where the user blocks of a row lie, how its check blocks come from them, and how many
 /// members may be missing. No call asks anything of its caller: a call of numbers that no group has answers by the
 /// same definition.
@@ -12,7 +16,7 @@ pub trait Method {
     const LEAST: usize;
 
     // The same, for contracts.
-    ghost least: { ℕ };
+    ghost LEAST: { ℕ };
 
     // With n members: how many user blocks a row has.
     ghost width: { ℕ → ℕ };
@@ -31,10 +35,6 @@ pub trait Method {
 
     // With n members: how many may be missing.
     ghost tolerance: { ℕ → ℕ };
-
-    /// `LEAST`: no contract can name a constant of a trait, and this ties it to what contracts cite.
-    fn least_members() -> usize
-        ensures { result ≡ least };
 
     /// How many of `n` members may be missing.
     fn tolerance_of(n: usize) -> usize
@@ -58,12 +58,12 @@ pub trait Method {
 
     /// Brings the check block of member `m` from the user block `old` at `p` to `new`.
     fn update(n: usize, t: usize, p: usize, m: usize, old: &Block, new: &Block, block: &mut Block)
-        ensures { Updates least width check row n t p m old.now new.now block.old block.new };
+        ensures { Updates LEAST width check row n t p m old.now new.now block.old block.new };
 
     /// Fills in the blocks of the members that are missing, in a row in strip `t`.
     fn recover(t: usize, blocks: &mut [Block], missing: &[bool])
-        ensures { Recovers least width row tolerance t missing.now blocks.old blocks.new };
+        ensures { Recovers LEAST width row tolerance t missing.now blocks.old blocks.new };
 
     // Of its places and rows; and with no more members missing than tolerated, the others determine every block of a row.
-    ghost sound: { Sound least width cycle home check row tolerance };
+    ghost sound: { Sound LEAST width cycle home check row tolerance };
 }

@@ -6,12 +6,13 @@ use crate::block::{Block, first_present};
 use crate::method::Method;
 
 /// The method copy. All members but one may be missing.
+#[derive(Clone, Copy, PartialEq, Eq, Debug)]
 pub struct Mirror;
 
 impl Method for Mirror {
     const LEAST: usize = 2;
 
-    ghost least = { 2 };
+    ghost LEAST = { 2 };
 
     ghost width = { copy_width };
 
@@ -26,10 +27,6 @@ impl Method for Mirror {
     ghost tolerance = { copy_tolerance };
 
     ghost sound = { copy_sound };
-
-    fn least_members() -> usize {
-        Self::LEAST
-    }
 
     fn tolerance_of(n: usize) -> usize {
         n.saturating_sub(1)
@@ -64,12 +61,9 @@ impl Method for Mirror {
     }
 
     fn recover(_t: usize, blocks: &mut [Block], missing: &[bool]) {
-        let from = first_present(missing);
-        if from < blocks.len() {
+        if let Some(from) = first_present(missing).filter(|from| *from < blocks.len()) {
             let block = blocks[from];
-            for m in 0..blocks.len() {
-                blocks[m] = block;
-            }
+            blocks.fill(block);
         }
     }
 }

@@ -7,19 +7,20 @@ use crate::block::{Block, first_missing, xor_block, xor_others};
 use crate::method::Method;
 
 /// The method XOR. One member may be missing.
+#[derive(Clone, Copy, PartialEq, Eq, Debug)]
 pub struct Parity;
 
 /// The check member of strip `t` with `n` members.
 pub fn parity_member(n: usize, t: usize) -> usize
     ensures { result ≡ t % n }
 {
-    if n == 0 { t } else { t % n }
+    t.checked_rem(n).unwrap_or(t)
 }
 
 impl Method for Parity {
     const LEAST: usize = 3;
 
-    ghost least = { 3 };
+    ghost LEAST = { 3 };
 
     ghost width = { xor_width };
 
@@ -34,10 +35,6 @@ impl Method for Parity {
     ghost tolerance = { xor_tolerance };
 
     ghost sound = { xor_sound };
-
-    fn least_members() -> usize {
-        Self::LEAST
-    }
 
     fn tolerance_of(_n: usize) -> usize {
         1
@@ -74,8 +71,7 @@ impl Method for Parity {
     }
 
     fn recover(_t: usize, blocks: &mut [Block], missing: &[bool]) {
-        let m = first_missing(missing);
-        if m < blocks.len() {
+        if let Some(m) = first_missing(missing).filter(|m| *m < blocks.len()) {
             let block = xor_others(blocks, m);
             blocks[m] = block;
         }

@@ -3,7 +3,7 @@ ghost use Rattle.std.specs.Prelude.{◌≡◌};
 ghost use Rattle.layout.specs.Refusals.{number_of};
 
 /// Why a call is refused; each refusal has the number of the check that failed.
-#[derive(Clone, Copy)]
+#[derive(Clone, Copy, PartialEq, Eq, Debug)]
 pub enum Refusal {
     /// Members, depth or rows are not within their rules.
     OutOfRule,
@@ -12,6 +12,8 @@ pub enum Refusal {
 }
 
 impl Refusal {
+    // Callers print and compare this number, so the enum has it by name.
+
     /// The number of the check that failed.
     pub fn number(&self) -> u8
         ensures { result ≡ number_of self.now }

@@ -20,9 +20,12 @@ fn the_last_block_of_the_example(rt: HostRuntime) -> Result<(), Fail> {
 #[test]
 fn a_missing_block_comes_back(rt: HostRuntime) {
     let mut row = [[5; 512], [9; 512], [0; 512]];
-    assert!(rt; encode_row::<Parity>(2, &mut row));
+    assert_eq!(rt; encode_row::<Parity>(2, &mut row), Ok(()));
     row[0] = [0; 512];
-    assert!(rt; recover_row::<Parity>(2, &mut row, &[true, false, false]));
+    assert_eq!(rt;
+        recover_row::<Parity>(2, &mut row, &[true, false, false]),
+        Ok(())
+    );
     assert_eq!(rt; row[0][511], 5);
     assert_eq!(rt; row[2][511], 12);
 }

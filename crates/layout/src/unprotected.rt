@@ -6,12 +6,13 @@ use crate::block::Block;
 use crate::method::Method;
 
 /// The method none. It tolerates no missing member.
+#[derive(Clone, Copy, PartialEq, Eq, Debug)]
 pub struct Unprotected;
 
 impl Method for Unprotected {
     const LEAST: usize = 1;
 
-    ghost least = { 1 };
+    ghost LEAST = { 1 };
 
     ghost width = { none_width };
 
@@ -26,10 +27,6 @@ impl Method for Unprotected {
     ghost tolerance = { none_tolerance };
 
     ghost sound = { none_sound };
-
-    fn least_members() -> usize {
-        Self::LEAST
-    }
 
     fn tolerance_of(_n: usize) -> usize {
         0

@@ -14,27 +14,10 @@ const DEPTHS: [usize; 7] = [0, 1, 2, 3, 5, 64, 65];
 // Groups with more protected blocks than this are only sampled.
 const MOST_PRINTED: usize = 400;
 
-// Whether `list[i]` stands further in front too.
-fn stands_before(list: &[usize], i: usize) -> bool {
-    for j in 0..i.min(list.len()) {
-        if i < list.len() && list[j] == list[i] {
-            return true;
-        }
-    }
-    false
-}
-
 fn print_place<M: Method, W: Write>(out: &mut W, group: &Geometry, q: usize) -> io::Result<()> {
     match group.locate::<M>(q) {
-        Ok(place) => {
-            let member = place.member;
-            let row = place.row;
-            write!(out, "{member},{row}")
-        }
-        Err(refusal) => {
-            let number = refusal.number();
-            write!(out, "refused {number}")
-        }
+        Ok(place) => write!(out, "{},{}", place.member, place.row),
+        Err(refusal) => write!(out, "refused {}", refusal.number()),
     }
 }
 
@@ -62,11 +45,10 @@ fn print_some<M: Method, W: Write>(
         count.saturating_sub(2),
         count.saturating_sub(1),
     ];
-    for i in 0..samples.len() {
-        if !stands_before(&samples, i) {
-            let q = samples[i];
+    for (i, q) in samples.iter().enumerate() {
+        if !samples[..i].contains(q) {
             write!(out, " {q}:")?;
-            print_place::<M, W>(out, group, q)?;
+            print_place::<M, W>(out, group, *q)?;
         }
     }
     Ok(())
@@ -81,10 +63,7 @@ fn print_group<M: Method, W: Write>(
 ) -> io::Result<()> {
     write!(out, "{name} {members} {depth} {rows} ")?;
     match Geometry::new::<M>(members, depth, rows) {
-        Err(refusal) => {
-            let number = refusal.number();
-            write!(out, "refused {number}")?;
-        }
+        Err(refusal) => write!(out, "refused {}", refusal.number())?,
         Ok(group) => {
             let count = group.protected_blocks::<M>();
             write!(out, "{count}")?;
@@ -115,18 +94,18 @@ fn print_groups<M: Method, W: Write>(
         65536,
         65537,
     ];
-    for i in 0..lengths.len() {
-        if !stands_before(&lengths, i) {
-            print_group::<M, W>(out, name, members, depth, lengths[i])?;
+    for (i, rows) in lengths.iter().enumerate() {
+        if !lengths[..i].contains(rows) {
+            print_group::<M, W>(out, name, members, depth, *rows)?;
         }
     }
     Ok(())
 }
 
 fn print_method<M: Method, W: Write>(out: &mut W, name: &str) -> io::Result<()> {
-    for members in 0..10usize {
-        for i in 0..DEPTHS.len() {
-            print_groups::<M, W>(out, name, members, DEPTHS[i])?;
+    for members in 0..10 {
+        for depth in DEPTHS {
+            print_groups::<M, W>(out, name, members, depth)?;
         }
     }
     Ok(())

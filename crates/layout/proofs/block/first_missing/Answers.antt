@@ -1,11 +1,11 @@
-use Rattle.layout.specs.Marks.{missing_here, missing_step, missing_end}
+use Rattle.std.proofs.Common.{rules}
+use borrow.Author.Tests.{tests}
+use Rattle.std.proofs.lemmas.Iterator.{YieldsList-from_slice}
+use Rattle.std.proofs.lemmas.Iterator.Search.{position_from_yields_List}
+use Rattle.layout.proofs.Found.{missing_found}
 use Rattle.layout.proofs.block.first_missing.Goals as goal
 
-pub returns-then-missing-m : goal.returns-then-missing-m
-returns-then-missing-m c = missing_here _ _ c.loop-m.invariant c.loop-m-test.true c.if-missing-m.true
-
-pub loop-m-preserved : goal.loop-m-preserved
-loop-m-preserved c = missing_step _ _ c.loop-m.invariant c.loop-m-test.true c.if-missing-m.false
-
 pub returns : goal.returns
-returns c = missing_end _ _ c.loop-m.invariant c.loop-m.auto.m-end c.loop-m-test.false
+returns c =
+    let xs = c.args.missing.now in
+    missing_found xs c.position.result (position_from_yields_List (λ gone. gone) _ _ _ c.position.ensures.ran (YieldsList-from_slice xs cc) (λ x b q k. search (rules, tests)))

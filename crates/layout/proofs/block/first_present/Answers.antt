@@ -1,11 +1,11 @@
-use Rattle.layout.specs.Marks.{present_here, present_step, present_end}
+use Rattle.std.proofs.Common.{rules, not}
+use borrow.Author.Tests.{tests}
+use Rattle.std.proofs.lemmas.Iterator.{YieldsList-from_slice}
+use Rattle.std.proofs.lemmas.Iterator.Search.{position_from_yields_List}
+use Rattle.layout.proofs.Found.{present_found}
 use Rattle.layout.proofs.block.first_present.Goals as goal
 
-pub returns-then-not-missing-present : goal.returns-then-not-missing-present
-returns-then-not-missing-present c = present_here _ _ c.loop-present.invariant c.loop-present-test.true c.if-not-missing-present.true
-
-pub loop-present-preserved : goal.loop-present-preserved
-loop-present-preserved c = present_step _ _ c.loop-present.invariant c.loop-present-test.true c.if-not-missing-present.false
-
 pub returns : goal.returns
-returns c = present_end _ _ c.loop-present.invariant c.loop-present.auto.present-end c.loop-present-test.false
+returns c =
+    let xs = c.args.missing.now in
+    present_found xs c.position.result (position_from_yields_List not _ _ _ c.position.ensures.ran (YieldsList-from_slice xs cc) (λ x b q k. search (rules, tests)))
