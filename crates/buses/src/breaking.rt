@@ -34,6 +34,7 @@ impl<B: Bus> BreakingBus<B> {
         Ok(())
     }
 
+    #[tactic(auto, using(crate::proofs::Marking::marked_untold))]
     pub fn new(below: B) -> BreakingBus<B>
         ensures below { result.below ≡ below }
         ensures drives { marked (B.Bus.drives result.below) result.left ≡ B.Bus.drives below }
@@ -103,10 +104,12 @@ impl<B: Bus> Bus for BreakingBus<B> {
 
     ghost sound = { λ k. sound_marked (B.Bus.drives k.below) k.left (B.Bus.sound k.below) };
 
+    #[tactic(auto, using(crate::specs::Breaking::count_marked))]
     fn count(&self) -> usize {
         self.below.count()
     }
 
+    #[tactic(auto, using(crate::specs::Breaking::size_marked))]
     fn capacity(&self, d: usize) -> usize {
         self.below.capacity(d)
     }

@@ -73,6 +73,7 @@ impl<A: Bus, B: Bus> Bus for JoinedBus<A, B> {
 
     ghost sound = { λ j. sound_joined (A.Bus.drives j.first) (B.Bus.drives j.second) (A.Bus.sound j.first) (B.Bus.sound j.second) };
 
+    #[tactic(auto, using(crate::specs::Joined::count_all, crate::specs::Joined::count_none))]
     fn count(&self) -> usize {
         let n = self.first.count() + self.second.count();
         if n > MOST_DRIVES { 0 } else { n }

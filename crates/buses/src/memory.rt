@@ -14,13 +14,6 @@ pub struct Drives {
     pub capacity: usize,
 }
 
-fn copy_block(block: &mut [u8], from: &[u8])
-    requires { length block.old ≡ length from.now }
-    ensures { block.new ≡ from.now }
-{
-    block.copy_from_slice(from);
-}
-
 // Where the block `at` of drives of `capacity` blocks begins.
 fn start_of(capacity: usize, at: BlockAddress) -> usize
     requires few { at.drive < 16 }
@@ -50,6 +43,7 @@ fn reach(drives: Drives, at: BlockAddress, len: usize) -> Result<(), BusFault>
 
 // Drives of one capacity in memory that the caller lends and gets back; they never break.
 // One whose drives don't fill the memory exactly has no drive.
+// That they fill it is no invariant of the type, since `new` takes any memory and drives, and can't fail.
 #[derive(Drop)]
 pub struct MemoryBus<'a> {
     bytes: &'a mut [u8],
@@ -110,7 +104,7 @@ impl<'a> MemoryBus<'a> {
         ensures unbroken { Unbroken result }
     {
         let a = self.locate(at, buf.len())?;
-        copy_block(buf, &self.bytes[a..a + BLOCK]);
+        buf.copy_from_slice(&self.bytes[a..a + BLOCK]);
         Ok(())
     }
 }
@@ -120,10 +114,12 @@ impl<'a> Bus for MemoryBus<'a> {
 
     ghost sound = { λ m. sound_fitting m.bytes.now m.drives.number m.drives.capacity };
 
+    #[tactic(auto, using(crate::specs::Images::count_is))]
     fn count(&self) -> usize {
         self.present()
     }
 
+    #[tactic(auto, using(crate::specs::Images::size_is, crate::specs::Images::at_beyond))]
     fn capacity(&self, d: usize) -> usize {
         let n = self.present();
         if d < n { self.drives.capacity } else { 0 }
@@ -151,7 +147,7 @@ impl<'a> Bus for MemoryBus<'a> {
         ensures drives { self.new.drives ≡ self.old.drives }
     {
         let a = self.locate(at, bytes.len())?;
-        copy_block(&mut self.bytes[a..a + BLOCK], bytes);
+        self.bytes[a..a + BLOCK].copy_from_slice(bytes);
         Ok(())
     }
 }

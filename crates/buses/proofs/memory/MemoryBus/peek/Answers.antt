@@ -7,5 +7,5 @@ returns-clause-reads c =
     let m = c.args.self.now in
     let a = c.in_ok-a.a in
     let size : a + 512 - a ≡ 512 = omega arith in
-    found_read m.bytes.now m.drives.number m.drives.capacity c.args.at.drive c.args.at.block (length c.args.buf.now) a c.in_ok-a.ensures c.args.buf.now c.copy_block.new.block refl
-    (c.copy_block.ensures ∙ ap (λ w. take w (drop a m.bytes.now)) size)
+    found_read m.bytes.now m.drives.number m.drives.capacity c.args.at.drive c.args.at.block (length c.args.buf.now) a c.in_ok-a.ensures c.args.buf.now c.copy_from_slice.new.self refl
+    (c.copy_from_slice.ensures.after ∙ ap (λ w. take w (drop a m.bytes.now)) size)

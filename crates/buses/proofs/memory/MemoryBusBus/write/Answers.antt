@@ -6,9 +6,9 @@ pub returns : goal.returns
 returns c =
     let m = c.args.self.now in
     record {
-      writes = found_write m.bytes.now m.drives.number m.drives.capacity c.args.at.drive c.args.at.block (length c.args.bytes.now) c.in_ok-a.a c.in_ok-a.ensures c.copy_block.new.block c.args.bytes.now _ refl (omega arith) c.copy_block.ensures;
+      writes = found_write m.bytes.now m.drives.number m.drives.capacity c.args.at.drive c.args.at.block (length c.args.bytes.now) c.in_ok-a.a c.in_ok-a.ensures c.copy_from_slice.new.self c.args.bytes.now _ refl (omega arith) c.copy_from_slice.ensures.after;
       unbroken = tt;
-      after = found_after m.bytes.now m.drives.number m.drives.capacity c.args.at.drive c.args.at.block (length c.args.bytes.now) c.in_ok-a.a c.in_ok-a.ensures c.copy_block.new.block c.args.bytes.now _ (omega arith) c.copy_block.ensures;
+      after = found_after m.bytes.now m.drives.number m.drives.capacity c.args.at.drive c.args.at.block (length c.args.bytes.now) c.in_ok-a.a c.in_ok-a.ensures c.copy_from_slice.new.self c.args.bytes.now _ (omega arith) c.copy_from_slice.ensures.after;
       named = refl;
       drives = refl;
     }
