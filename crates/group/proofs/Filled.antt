@@ -7,11 +7,9 @@ use Rattle.bus.specs.Drives.{Drive, at, size, block, broke, stored}
 use Rattle.bus.specs.Requests.{WroteBy, Faults, Writes}
 use Rattle.layout.specs.declared.extent.ExtentRow.{ExtentRow}
 use Rattle.layout.specs.Extents.{Sound, Covers}
-use Rattle.group.specs.declared.fault.RowFault.{RowFault}
-use Rattle.group.specs.declared.fault.RowFault.TheVariants.{Failed}
-use Rattle.group.specs.Seen.{seen}
+use Rattle.group.specs.declared.fill.Stop.{Stop}
 use Rattle.group.specs.Group.{Frame, NoBlock}
-use Rattle.group.specs.Filling.{extent, zeros, Zeroed, OneDrive, FillsOne, SomeDrive, SomeBlock, Stopped, Filled}
+use Rattle.group.specs.Filling.{extent, zeros, Zeroed, Stops, OneDrive, FillsOne, SomeDrive, SomeBlock, Stopped, Filled}
 use Rattle.group.proofs.Frames.{frame_refl, frame_trans, frame_wider, broke_frame, broke_there, stored_frame, stored_there, stored_broken}
 
 -- the first k blocks of the extent e are filled, and nothing else changed
@@ -69,27 +67,17 @@ module _ (m s n : List Drive) (e : ExtentRow) (k : ℕ) (inside : k < e.count) (
       (subst (λ (o : List Drive). Frame s o (OneDrive e) (Covers e)) (sym q)
       (frame_wider s (broke s e.drive) (OneDrive e) (OneDrive e) NoBlock (Covers e) (λ d x. x) (λ d b x. absurd x) (broke_frame s e.drive h)))
 
-  pub filled_stops : (U : Type 0) (i : ℕ) (f : BusFault) → Faults s n e.drive (e.start + k) (length zeros) f → FillsOne {U = U} m n e i (Err (Failed f i k))
-  filled_stops U i (NoDrive d b) q =
-      (same_frame q.1.same, refl, inside, (q.0.drive, q.0.place, omega (arith, ap length q.1.same, q.1.beyond)))
-  filled_stops U i (Length d b) q = absurd (q.1.other refl)
-  filled_stops U i (Range d b) q =
-      (same_frame q.1.same, refl, inside, (q.0.drive, q.0.place, omega (arith, ap (λ (o : List Drive). size o e.drive) q.1.same, q.1.beyond)))
-  filled_stops U i (Broken d b) q = (
+  pub filled_stops : (f : BusFault) → Faults s n e.drive (e.start + k) (length zeros) f → Frame m n (OneDrive e) (Covers e) × (k < e.count) × Stops n e k f
+  filled_stops (NoDrive d b) q =
+      (same_frame q.1.same, inside, (q.0.drive, q.0.place, omega (arith, ap length q.1.same, q.1.beyond)))
+  filled_stops (Length d b) q = absurd (q.1.other refl)
+  filled_stops (Range d b) q =
+      (same_frame q.1.same, inside, (q.0.drive, q.0.place, omega (arith, ap (λ (o : List Drive). size o e.drive) q.1.same, q.1.beyond)))
+  filled_stops (Broken d b) q = (
     broke_now q.1.placed.exists q.1.broken,
-    refl,
     inside,
     (q.0.drive, q.0.place, ap (λ (o : List Drive). (at o e.drive).broken) q.1.broken ∙ broke_there s e.drive q.1.placed.exists),
   )
-
-  -- either, by what the row was told
-  pub filled_after : {U : Type 0} (i : ℕ) (x : Result U BusFault) (u : U) → seen i k x ≡ Ok u → Writes s n e.drive (e.start + k) zeros x → FilledTo m n e (k + 1)
-  filled_after i (Ok v) u is w = filled_more w
-  filled_after {U} i (Err f) u is w = let clash : ◌≡◌ {A = ℕ} 0 1 = cc in absurd (omega arith)
-
-  pub stopped_after : {U : Type 0} (i : ℕ) (x : Result U BusFault) (f : RowFault) → seen i k x ≡ Err f → Writes s n e.drive (e.start + k) zeros x → FillsOne {U = U} m n e i (Err f)
-  stopped_after i (Ok v) f is w = let clash : ◌≡◌ {A = ℕ} 0 1 = cc in absurd (omega arith)
-  stopped_after {U} i (Err b) f is w = subst (λ (y : Result U RowFault). FillsOne m n e i y) is (filled_stops U i b w)
 
 -- the extents below i are filled, and no more than the extents changed
 pub record FilledMembers (m n : List Drive) (es : List ExtentRow) (i : ℕ) : Type 0 where
@@ -152,10 +140,9 @@ module _ (m s n : List Drive) (es : List ExtentRow) (i : ℕ) (inside : i < leng
         (cases_eq j i);
   }
 
-  pub member_stops : (U : Type 0) (number j q : ℕ) (f : BusFault) → ((k : ℕ) → k < length es → Sound (extent es k)) → FillsOne {U = U} s n (extent es i) i (Err (Failed f j q)) → Stopped m n es number number q j f
-  member_stops U number j q f sound x =
-      subst (λ (v : ℕ). Stopped m n es number number q v f) (sym x.1)
-      (record { frame = one_of x.0; group = refl; inside = inside; row = x.2; fault = x.3; sound = sound })
+  pub member_stops : (U : Type 0) (number : ℕ) (x : Stop) → ((k : ℕ) → k < length es → Sound (extent es k)) → FillsOne {U = U} s n (extent es i) (Err x) → Stopped m n es number number x.row i x.fault
+  member_stops U number x sound told =
+      record { frame = one_of told.0; group = refl; inside = inside; row = told.1; fault = told.2; sound = sound }
 
 pub members_filled : (m n : List Drive) (es : List ExtentRow) (i : ℕ) → length es ≤ i → ((j : ℕ) → j < length es → Sound (extent es j)) → FilledMembers m n es i → Filled m n es
 members_filled m n es i all sound fs = record {

@@ -1,3 +1,4 @@
+pub mod Answering
 pub mod Frames
 pub mod Counts
 pub mod Gathering

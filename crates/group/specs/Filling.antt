@@ -5,8 +5,7 @@ use Rattle.bus.specs.declared.fault.BusFault.TheVariants.{NoDrive, Length, Range
 use Rattle.bus.specs.Drives.{Drive, at, size, block}
 use Rattle.layout.specs.declared.extent.ExtentRow.{ExtentRow}
 use Rattle.layout.specs.Extents.{Sound, Covers}
-use Rattle.group.specs.declared.fault.RowFault.{RowFault}
-use Rattle.group.specs.declared.fault.RowFault.TheVariants.{Lost, Failed}
+use Rattle.group.specs.declared.fill.Stop.{Stop}
 use Rattle.group.specs.declared.fault.GroupFault.{GroupFault}
 use Rattle.group.specs.declared.fault.GroupFault.TheVariants.{OutOfRule, Short, Outside, Whole, Lost as GroupLost, Failed as GroupFailed}
 use Rattle.group.specs.Group.{Frame}
@@ -35,11 +34,10 @@ Stops n e q (Broken d b) = (d ≡ e.drive) × (b ≡ e.start + q) × ((at n e.dr
 abbrev pub OneDrive : ExtentRow → ℕ → Type 0
 OneDrive e d = e.drive ≡ d
 
--- one extent filled, as member i: nothing else changed but its blocks and its drive
-abbrev pub FillsOne : {U : Type 0} → List Drive → List Drive → ExtentRow → ℕ → Result U RowFault → Type 0
-FillsOne m n e i (Ok u) = Frame m n (OneDrive e) (Covers e) × Zeroed n e e.count
-FillsOne m n e i (Err (Failed f j q)) = Frame m n (OneDrive e) (Covers e) × (j ≡ i) × (q < e.count) × Stops n e q f
-FillsOne m n e i (Err (Lost j q)) = ⊥
+-- one extent filled, or stopped at a row of it: nothing else changed but its blocks and its drive
+abbrev pub FillsOne : {U : Type 0} → List Drive → List Drive → ExtentRow → Result U Stop → Type 0
+FillsOne m n e (Ok u) = Frame m n (OneDrive e) (Covers e) × Zeroed n e e.count
+FillsOne m n e (Err s) = Frame m n (OneDrive e) (Covers e) × (s.row < e.count) × Stops n e s.row s.fault
 
 -- a drive, and a block, of one of the extents
 abbrev pub SomeDrive : List ExtentRow → ℕ → Type 0

@@ -3,6 +3,8 @@ use Rattle.std.specs.Prelude.{◌≡◌, ℕ, ◌+◌, ◌<◌, ◌≤◌, List,
 use Rattle.layout.specs.declared.extent.ExtentRow.{ExtentRow}
 use Rattle.layout.specs.declared.geometry.Geometry.{Geometry}
 use Rattle.layout.specs.Extents.{Sound}
+use Rattle.group.specs.declared.making.MoveRefusal.{MoveRefusal}
+use Rattle.group.specs.declared.making.MoveRefusal.TheVariants.{NoMember, PastEnd, DriveTaken}
 use Rattle.group.specs.declared.member.Member.{Member}
 use Rattle.group.specs.Group.{member}
 use Rattle.group.specs.Filling.{extent}
@@ -31,3 +33,9 @@ pub record Movable (n l : ℕ) (ms : List Member) (i d start : ℕ) : Type 0 whe
   pub inside : i < n
   pub ends : start + l ≤ 65536
   pub apart : (j : ℕ) → j < n → (j ≢ i) → (member ms j).drive ≢ d
+
+-- the first of the checks that failed: there is no member i, the rows would end too late, or another member is on drive d
+abbrev pub Unmovable : ℕ → ℕ → List Member → ℕ → ℕ → ℕ → MoveRefusal → Type 0
+Unmovable n l ms i d start NoMember = n ≤ i
+Unmovable n l ms i d start PastEnd = (i < n) × (65536 < start + l)
+Unmovable n l ms i d start DriveTaken = (i < n) × (start + l ≤ 65536) × (j : ℕ) × (j < n) × (j ≢ i) × ((member ms j).drive ≡ d)

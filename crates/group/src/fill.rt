@@ -3,30 +3,33 @@ ghost use Rattle.std.specs.Prelude.{◌≡◌, ℕ, ◌<◌, length, MatchBool};
 ghost use Rattle.layout.specs.Extents.{Sound};
 ghost use Rattle.group.specs.Filling.{extent, FillsOne, Fills};
 
-use crate::fault::{AtRow, GroupFault, RowFault};
-use bus::Bus;
+use crate::fault::GroupFault;
+use bus::{Bus, BusFault};
 use layout::extent::{Extent, ExtentRow};
 
 // Whether every row is that of an extent.
 fn sound_rows(extents: &[ExtentRow]) -> bool
     ensures { MatchBool result ((i : ℕ) → i < length extents.now → Sound (extent extents.now i)) (((i : ℕ) → i < length extents.now → Sound (extent extents.now i)) → ⊥) }
 {
-    for i in 0..extents.len() {
-        if Extent::new(extents[i]).is_none() {
-            return false;
-        }
-    }
-    true
+    extents.iter().all(|row| Extent::new(*row).is_some())
 }
 
-// Sets every block of `e`, which is member `i`, to zeros; stops at the first that its drive refuses.
-fn fill_extent<B: Bus>(bus: &mut B, e: ExtentRow, i: usize) -> Result<(), RowFault>
+// The row of an extent that its drive refused.
+#[derive(Clone, Copy)]
+struct Stop {
+    row: usize,
+    fault: BusFault,
+}
+
+// Sets every block of `e` to zeros; stops at the first that its drive refuses.
+fn fill_extent<B: Bus>(bus: &mut B, e: ExtentRow) -> Result<(), Stop>
     requires { Sound e }
-    ensures { FillsOne (B.Bus.drives bus.old) (B.Bus.drives bus.new) e i result }
+    ensures { FillsOne (B.Bus.drives bus.old) (B.Bus.drives bus.new) e result }
 {
     let zeros = [0u8; 512];
-    for r in 0..e.count {
-        bus.write(e.drive, e.start + r, &zeros).at_row(i, r)?;
+    for row in 0..e.count {
+        bus.write(e.drive, e.start + row, &zeros)
+            .map_err(|fault| Stop { row, fault })?;
     }
     Ok(())
 }
@@ -38,21 +41,13 @@ pub fn fill<B: Bus>(bus: &mut B, number: usize, extents: &[ExtentRow]) -> Result
     if !sound_rows(extents) {
         return Err(GroupFault::Outside);
     }
-    for i in 0..extents.len() {
-        match fill_extent(bus, extents[i], i) {
-            Ok(()) => {}
-            Err(refusal) => match refusal {
-                RowFault::Failed { fault, member, row } => {
-                    return Err(GroupFault::Failed {
-                        group: number,
-                        row,
-                        member,
-                        fault,
-                    });
-                }
-                RowFault::Lost { member: _, row: _ } => unreachable(),
-            },
-        }
+    for (member, e) in extents.iter().enumerate() {
+        fill_extent(bus, *e).map_err(|stop| GroupFault::Failed {
+            group: number,
+            row: stop.row,
+            member,
+            fault: stop.fault,
+        })?;
     }
     Ok(())
 }

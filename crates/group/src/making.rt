@@ -1,25 +1,19 @@
 //! Making a group.
-ghost use Rattle.std.specs.Prelude.{◌≡◌, ℕ, ◌+◌, ◌<◌, ◌≤◌, length, set, MatchBool, MatchOption, ◌≢◌};
+ghost use Rattle.std.specs.Prelude.{◌≡◌, ℕ, ◌+◌, ◌<◌, ◌≤◌, length, set, MatchBool, MatchOption, MatchResult, ◌≢◌};
 ghost use Rattle.group.specs.Filling.{extent};
 ghost use Rattle.group.specs.Group.{member as memberOf};
-ghost use Rattle.group.specs.Making.{Fits, MadeTo, Movable};
+ghost use Rattle.group.specs.Making.{Fits, MadeTo, Movable, Unmovable};
 
 use crate::member::Member;
 use crate::record::Group;
 use layout::extent::{Extent, ExtentRow, MOST_BLOCKS};
 use layout::geometry::Geometry;
 
-// Whether one of the first `k` rows is on drive `d`.
-fn drive_taken(extents: &[ExtentRow], k: usize, d: usize) -> bool
-    requires { k ≤ length extents.now }
-    ensures { MatchBool result ((i : ℕ) × (i < k) × ((extent extents.now i).drive ≡ d)) ((i : ℕ) → i < k → (extent extents.now i).drive ≢ d) }
+// Whether one of the rows is on drive `d`.
+fn drive_taken(extents: &[ExtentRow], d: usize) -> bool
+    ensures { MatchBool result ((i : ℕ) × (i < length extents.now) × ((extent extents.now i).drive ≡ d)) ((i : ℕ) → i < length extents.now → (extent extents.now i).drive ≢ d) }
 {
-    for i in 0..k {
-        if extents[i].drive == d {
-            return true;
-        }
-    }
-    false
+    extents.iter().any(|row| row.drive == d)
 }
 
 impl Group {
@@ -28,8 +22,7 @@ impl Group {
     pub fn new(number: usize, geometry: Geometry, extents: &[ExtentRow]) -> Option<Group>
         ensures { MatchOption result (Fits extents.now geometry → ⊥) (λ g. Fits extents.now geometry × (g.number ≡ number) × (g.geometry ≡ geometry) × MadeTo extents.now g.members geometry.members) }
     {
-        let n = geometry.members();
-        if extents.len() != n {
+        if extents.len() != geometry.members() {
             return None;
         }
         let mut members = [Member {
@@ -37,15 +30,9 @@ impl Group {
             start: 0,
             mark: 0,
         }; 8];
-        for i in 0..n {
-            let row = extents[i];
-            if Extent::new(row).is_none() {
-                return None;
-            }
-            if row.count != geometry.rows() {
-                return None;
-            }
-            if drive_taken(extents, i, row.drive) {
+        for (i, row) in extents.iter().enumerate() {
+            Extent::new(*row)?;
+            if row.count != geometry.rows() || drive_taken(&extents[0..i], row.drive) {
                 return None;
             }
             members[i] = Member {
@@ -62,44 +49,48 @@ impl Group {
     }
 }
 
-// Whether a member but `i` of the first `n` is on drive `d`.
-fn other_on(members: &[Member; 8], n: usize, i: usize, d: usize) -> bool
-    requires { n ≤ 8 }
-    ensures { MatchBool result ((j : ℕ) × (j < n) × (j ≢ i) × ((memberOf members.now j).drive ≡ d)) ((j : ℕ) → j < n → (j ≢ i) → (memberOf members.now j).drive ≢ d) }
+/// Why a member may not move.
+#[derive(Clone, Copy, PartialEq, Eq, Debug)]
+pub enum MoveRefusal {
+    /// There is no such member.
+    NoMember,
+    /// The rows would end beyond block 65,536.
+    PastEnd,
+    /// Another member is on that drive.
+    DriveTaken,
+}
+
+// Whether a member but `i` is on drive `d`.
+fn other_on(members: &[Member], i: usize, d: usize) -> bool
+    ensures { MatchBool result ((j : ℕ) × (j < length members.now) × (j ≢ i) × ((memberOf members.now j).drive ≡ d)) ((j : ℕ) → j < length members.now → (j ≢ i) → (memberOf members.now j).drive ≢ d) }
 {
-    for j in 0..n {
-        if j != i {
-            if members[j].drive == d {
-                return true;
-            }
-        }
-    }
-    false
+    members
+        .iter()
+        .enumerate()
+        .any(|(j, member)| j != i && member.drive == d)
 }
 
 impl Group {
-    /// Moves member `i` to the blocks from `start` on of `drive`, none of them rebuilt; false, and nothing changed, where
+    /// Moves member `i` to the blocks from `start` on of `drive`, none of them rebuilt; refused, and nothing changed, where
     /// there is no such member, the rows would end beyond block 65,536, or another member is on that drive.
-    pub fn move_member(&mut self, i: usize, drive: usize, start: usize) -> bool
-        ensures cases { MatchBool result (Movable self.old.geometry.members self.old.geometry.rows self.old.members i drive start × (self.new.members ≡ set self.old.members i (record { drive = drive; start = start; mark = 0 }))) ((Movable self.old.geometry.members self.old.geometry.rows self.old.members i drive start → ⊥) × (self.new.members ≡ self.old.members)) }
+    pub fn move_member(&mut self, i: usize, drive: usize, start: usize) -> Result<(), MoveRefusal>
+        ensures cases { MatchResult result (λ _. Movable self.old.geometry.members self.old.geometry.rows self.old.members i drive start × (self.new.members ≡ set self.old.members i (record { drive = drive; start = start; mark = 0 }))) (λ e. Unmovable self.old.geometry.members self.old.geometry.rows self.old.members i drive start e × (Movable self.old.geometry.members self.old.geometry.rows self.old.members i drive start → ⊥) × (self.new.members ≡ self.old.members)) }
         ensures same { (self.new.number ≡ self.old.number) × (self.new.geometry ≡ self.old.geometry) }
     {
-        let n = self.geometry.members();
-        let rows = self.geometry.rows();
-        if i >= n {
-            return false;
+        if i >= self.geometry.members() {
+            return Err(MoveRefusal::NoMember);
         }
-        if start > MOST_BLOCKS - rows {
-            return false;
+        if start > MOST_BLOCKS - self.geometry.rows() {
+            return Err(MoveRefusal::PastEnd);
         }
-        if other_on(&self.members, n, i, drive) {
-            return false;
+        if other_on(self.active(), i, drive) {
+            return Err(MoveRefusal::DriveTaken);
         }
         self.members[i] = Member {
             drive,
             start,
             mark: 0,
         };
-        true
+        Ok(())
     }
 }

@@ -1,5 +1,5 @@
 use Rattle.group.proofs.Filled.{FilledMembers}
 use Rattle.group.proofs.fill.fill.Given as goal
 
-abbrev pub invariant-loop-i : goal.invariant-loop-i
-invariant-loop-i g l = FilledMembers (g.B.Bus.drives l.initial.bus) (g.B.Bus.drives l.bus) l.extents l.i
+abbrev pub invariant-loop-member : goal.invariant-loop-member
+invariant-loop-member g l = FilledMembers (g.B.Bus.drives l.initial.bus) (g.B.Bus.drives l.bus) l.extents l.member-counter
