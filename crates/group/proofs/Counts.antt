@@ -1,6 +1,7 @@
 -- Counting marks.
-use Rattle.std.proofs.Common.{◌≡◌, ℕ, zero, suc, ◌+◌, ◌<◌, ◌≤◌, Bool, true, false, List, [], ◌∷◌, length, get_or, drop, set, refl, ap, ◌∙◌, arith}
-use Rattle.std.proofs.lemmas.List.{at_drop_more, at_drop_all, get_or-map, length-map}
+use Rattle.std.proofs.Common.{◌≡◌, ℕ, zero, suc, ◌<◌, ◌≤◌, Bool, true, false, cond, Option, None, Some, MatchOption, List, [], ◌∷◌, length, get_or, filter, map, set, refl, ap, ◌∙◌, arith}
+use Rattle.std.specs.List.{HoldsAt, AllWithin}
+use Rattle.std.proofs.lemmas.List.{get_or-map, length-map}
 use Rattle.std.proofs.lemmas.Bool.{true≢false, false≢true}
 use Rattle.bus.specs.Drives.{Drive}
 use Rattle.layout.specs.Blocks.{missing_count}
@@ -23,45 +24,14 @@ missing_count_set (false ∷ o) zero = omega arith
 missing_count_set (true ∷ o) (suc i) = let r = missing_count_set o i in omega arith
 missing_count_set (false ∷ o) (suc i) = let r = missing_count_set o i in omega arith
 
-module _ (o : List Bool) (i c : ℕ) (h : i < length o) (inv : c + missing_count (drop i o) ≡ missing_count o) where
-  pub mark_step : (d : ℕ) → d ≡ c + 1 → get_or o i false ≡ true → d + missing_count (drop (i + 1) o) ≡ missing_count o
-  mark_step d e b =
-      let f : missing_count (drop i o) ≡ suc (missing_count (drop (i + 1) o)) = at_drop_more missing_count o i false h ∙ ap (λ (x : Bool). missing_count (x ∷ drop (i + 1) o)) b in
-      omega arith
+-- counted by a test, or in the marks of it
+counted_more : {X : Type 0} (b : Bool) (x : X) (ys : List X) (o : List Bool) → length ys ≡ missing_count o → length (cond b (x ∷ ys) ys) ≡ missing_count (b ∷ o)
+counted_more true x ys o e = ap suc e
+counted_more false x ys o e = e
 
-  pub skip_step : (d : ℕ) → d ≡ c → get_or o i false ≡ false → d + missing_count (drop (i + 1) o) ≡ missing_count o
-  skip_step d e b =
-      let f : missing_count (drop i o) ≡ missing_count (drop (i + 1) o) = at_drop_more missing_count o i false h ∙ ap (λ (x : Bool). missing_count (x ∷ drop (i + 1) o)) b in
-      omega arith
-
-pub mark_end : (o : List Bool) (i c : ℕ) → length o ≤ i → c + missing_count (drop i o) ≡ missing_count o → c ≡ missing_count o
-mark_end o i c h inv = let f : missing_count (drop i o) ≡ 0 = at_drop_all missing_count o i h in omega arith
-
--- the same of the members that are missing
-module _ (m : List Drive) (r : ℕ) (gs : List Member) (i c : ℕ) where
-  left : List Member → ℕ
-  left hs = missing_count (missings m r hs)
-
-  pub missing_step : i < length gs → c + missing_count (missings m r (drop i gs)) ≡ missing_count (missings m r gs) → (d : ℕ) → d ≡ c + 1 → missing m r (member gs i) ≡ true → d + missing_count (missings m r (drop (i + 1) gs)) ≡ missing_count (missings m r gs)
-  missing_step h inv d e b =
-      let f : missing_count (missings m r (drop i gs)) ≡ suc (missing_count (missings m r (drop (i + 1) gs))) =
-      at_drop_more (λ (hs : List Member). missing_count (missings m r hs)) gs i nobody h ∙ ap (λ (x : Bool). missing_count (x ∷ missings m r (drop (i + 1) gs))) b in
-      omega arith
-
-  pub in_step : i < length gs → c + missing_count (missings m r (drop i gs)) ≡ missing_count (missings m r gs) → (d : ℕ) → d ≡ c → missing m r (member gs i) ≡ false → d + missing_count (missings m r (drop (i + 1) gs)) ≡ missing_count (missings m r gs)
-  in_step h inv d e b =
-      let f : missing_count (missings m r (drop i gs)) ≡ missing_count (missings m r (drop (i + 1) gs)) =
-      at_drop_more (λ (hs : List Member). missing_count (missings m r hs)) gs i nobody h ∙ ap (λ (x : Bool). missing_count (x ∷ missings m r (drop (i + 1) gs))) b in
-      omega arith
-
-  pub missing_end : length gs ≤ i → c + missing_count (missings m r (drop i gs)) ≡ missing_count (missings m r gs) → c ≡ missing_count (missings m r gs)
-  missing_end h inv = let f : missing_count (missings m r (drop i gs)) ≡ 0 = at_drop_all (λ (hs : List Member). missing_count (missings m r hs)) gs i h in omega arith
-
--- what is left of the count is no more than the members left
-pub missing_count_length : (o : List Bool) → missing_count o ≤ length o
-missing_count_length [] = omega arith
-missing_count_length (true ∷ o) = let r = missing_count_length o in omega arith
-missing_count_length (false ∷ o) = let r = missing_count_length o in omega arith
+pub counted : {X : Type 0} (p : X → Bool) (xs : List X) → length (filter p xs) ≡ missing_count (map p xs)
+counted p [] = refl
+counted p (x ∷ xs) = counted_more (p x) x (filter p xs) (map p xs) (counted p xs)
 
 pub none_missing : (o : List Bool) → ((k : ℕ) → k < length o → get_or o k true ≡ false) → missing_count o ≡ 0
 none_missing [] h = refl
@@ -72,3 +42,10 @@ pub no_member_missing : (m : List Drive) (r : ℕ) (gs : List Member) → ((k : 
 no_member_missing m r gs h =
     let long : length (missings m r gs) ≡ length gs = length-map gs (missing m r) in
     none_missing (missings m r gs) (λ k l. get_or-map (missing m r) gs k nobody true (omega arith) ∙ h k (omega arith))
+
+-- the first that is missing, or none is
+pub first_gone : (m : List Drive) (r : ℕ) (gs : List Member) (x : Option ℕ) →
+    MatchOption x (AllWithin (λ g. missing m r g ≡ false) gs 0 (length gs)) (λ i. (i < length gs) × HoldsAt (λ g. missing m r g ≡ true) gs i × AllWithin (λ g. missing m r g ≡ false) gs 0 i) →
+    MatchOption x (missing_count (missings m r gs) ≡ 0) (λ i. (i < length gs) × (missing m r (member gs i) ≡ true))
+first_gone m r gs None h = no_member_missing m r gs (λ k l. h k nobody (omega arith) l)
+first_gone m r gs (Some i) h = (h.0, h.1 nobody)

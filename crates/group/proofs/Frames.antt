@@ -1,7 +1,7 @@
 -- What a request changes on a bus.
-use Rattle.std.proofs.Common.{◌≡◌, ℕ, suc, ◌+◌, ◌<◌, ◌≤◌, Bool, true, false, leb, List, [], ◌∷◌, length, get_or, set, Ok, Err, Result, sym, refl, ap, ◌∙◌, subst, ⊎_elim, arith}
+use Rattle.std.proofs.Common.{◌≡◌, ℕ, suc, ◌+◌, ◌<◌, ◌≤◌, Bool, true, false, leb, List, [], ◌∷◌, length, get_or, set, Ok, Err, None, Result, sym, refl, ap, ◌∙◌, subst, ⊎_elim, arith}
 use Rattle.std.proofs.lemmas.List.{get_or-set_same, get_or-set_other, length-set}
-use Rattle.std.proofs.lemmas.Bool.{cases_eq, cases_Bool, false≢true, both_ways, or_cases, or_left, or_right}
+use Rattle.std.proofs.lemmas.Bool.{cases_eq, cases_Bool, both_ways, or_cases, or_left, or_right}
 use Rattle.bus.specs.declared.fault.BusFault.{BusFault}
 use Rattle.bus.specs.declared.fault.BusFault.TheVariants.{NoDrive, Length, Range, Broken}
 use Rattle.bus.specs.Drives.{Drive, at, size, block, stored, broke, absent}
@@ -104,13 +104,12 @@ module _ (m n : List Drive) (r : ℕ) (g : Member) where
   pub placed_by : g.start + r < size m g.drive → (len : ℕ) → len ≡ 512 → Placed m g.drive (g.start + r) len
   placed_by h len w = record { exists = there_by_size m g.drive (g.start + r) h; whole = w; within = h }
 
-  pub fetch_failed : (buf : List ℕ) (b len : ℕ) (e : BusFault) → Placed m g.drive b len → Faults m n g.drive b len e → Fetched m n r g buf false
-  fetch_failed buf b len e p q =
+  pub fetch_failed : (b len : ℕ) (e : BusFault) → Placed m g.drive b len → Faults m n g.drive b len e → Fetched m n r g None
+  fetch_failed b len e p q =
       let is : n ≡ broke m g.drive = fault_broke m n g.drive b len e p q in
       record {
         frame = subst (λ (o : List Drive). Frame m o (Its g) NoBlock) (sym is) (broke_frame m g.drive p.exists);
-        read = λ z. absurd (false≢true z);
-        failed = λ z. missing_broken (subst (λ (o : List Drive). (at o g.drive).broken ≡ true) (sym is) (broke_there m g.drive p.exists));
+        answer = missing_broken (subst (λ (o : List Drive). (at o g.drive).broken ≡ true) (sym is) (broke_there m g.drive p.exists));
       }
 
   pub sent_by : {U : Type 0} (xs : List ℕ) (s : Result U BusFault) → g.start + r < size m g.drive → length xs ≡ 512 → Writes m n g.drive (g.start + r) xs s → Sent m n r g xs

@@ -1,5 +1,5 @@
 -- Reading member after member.
-use Rattle.std.proofs.Common.{◌≡◌, ℕ, ◌+◌, ◌<◌, ◌≤◌, Bool, true, false, ◌||◌, leb, ◌≢◌, List, [], length, get_or, set, sym, refl, ap, ◌∙◌, subst, ⊎_elim, arith}
+use Rattle.std.proofs.Common.{◌≡◌, ℕ, ◌+◌, ◌<◌, ◌≤◌, Bool, true, false, ◌||◌, leb, ◌≢◌, List, [], length, get_or, set, Option, Some, None, sym, ap, ◌∙◌, subst, ⊎_elim, arith}
 use Rattle.std.proofs.lemmas.List.{get_or-set_same, get_or-set_other, get_or-map, length-map}
 use Rattle.std.proofs.lemmas.Bool.{cases_eq, cases_lt, cases_Bool, both_ways}
 use Rattle.bus.specs.Drives.{Drive, at, size}
@@ -45,7 +45,7 @@ module _ (tolerance : ℕ) (m : List Drive) (r : ℕ) (gs : List Member) where
     pub still_within : (member gs i).start + r < size s (member gs i).drive
     still_within = omega (arith, shape.within i h, a.frame.sizes (member gs i).drive)
 
-    module _ (n : List Drive) (buf : List ℕ) (b : Bool) (f : Fetched s n r (member gs i) buf b) where
+    module _ (n : List Drive) (x : Option (List ℕ)) (f : Fetched s n r (member gs i) x) where
       frame_next : Frame m n (Ours gs) NoBlock
       frame_next = frame_trans m s n (Ours gs) NoBlock a.frame
           (frame_wider s n (Its (member gs i)) (Ours gs) NoBlock NoBlock (λ d e. (i, h, e)) (λ d c x. x) f.frame)
@@ -57,19 +57,19 @@ module _ (tolerance : ℕ) (m : List Drive) (r : ℕ) (gs : List Member) where
       same_missing : (k : ℕ) → k < length gs → k ≢ i → missing n r (member gs k) ≡ missing s r (member gs k)
       same_missing k l ne = ap (λ (v : Drive). v.broken || leb (member gs k).mark r) (same_at k l ne)
 
-    pub gathers_read : (n : List Drive) (buf : List ℕ) → i < length o → i < length bs → Fetched s n r (member gs i) buf true → Gathers tolerance m r gs (i + 1) n (set o i false) (set bs i buf)
+    pub gathers_read : (n : List Drive) (buf : List ℕ) → i < length o → i < length bs → Fetched s n r (member gs i) (Some buf) → Gathers tolerance m r gs (i + 1) n (set o i false) (set bs i buf)
     gathers_read n buf ho hb f = record {
-      frame = frame_next n buf true f;
+      frame = frame_next n (Some buf) f;
       known = λ k l e.
           ⊎_elim
           (λ (q : k ≡ i). (
-            subst (λ (j : ℕ). missing n r (member gs j) ≡ false) (sym q) (f.read refl).0,
+            subst (λ (j : ℕ). missing n r (member gs j) ≡ false) (sym q) f.answer.0,
             subst (λ (j : ℕ). get_or (set bs i buf) j [] ≡ held m r (member gs j)) (sym q)
-                (get_or-set_same bs i buf [] hb ∙ (f.read refl).1 ∙ a.frame.blocks _ _ (λ x. x)),
+                (get_or-set_same bs i buf [] hb ∙ f.answer.1 ∙ a.frame.blocks _ _ (λ x. x)),
           ))
           (λ (ne : k ≡ i → ⊥).
           let old = a.known k l (sym (get_or-set_other o i k false true ne) ∙ e) in
-          (same_missing n buf true f k l ne ∙ old.0, get_or-set_other bs i k buf [] ne ∙ old.1))
+          (same_missing n (Some buf) f k l ne ∙ old.0, get_or-set_other bs i k buf [] ne ∙ old.1))
           (cases_eq k i);
       tried = λ l k lt e.
           ⊎_elim
@@ -81,17 +81,17 @@ module _ (tolerance : ℕ) (m : List Drive) (r : ℕ) (gs : List Member) where
       rest = λ k l. let ne : k ≢ i = omega arith in get_or-set_other o i k false true ne ∙ a.rest k (omega arith);
     }
 
-    pub gathers_miss : (n : List Drive) (buf : List ℕ) → Fetched s n r (member gs i) buf false → Gathers tolerance m r gs (i + 1) n o bs
-    gathers_miss n buf f = record {
-      frame = frame_next n buf false f;
+    pub gathers_miss : (n : List Drive) → Fetched s n r (member gs i) None → Gathers tolerance m r gs (i + 1) n o bs
+    gathers_miss n f = record {
+      frame = frame_next n None f;
       known = λ k l e.
           ⊎_elim
           (λ (q : k ≡ i). absurd (both_ways (get_or o k true) e (a.rest k (omega arith))))
-          (λ (ne : k ≡ i → ⊥). let old = a.known k l e in (same_missing n buf false f k l ne ∙ old.0, old.1))
+          (λ (ne : k ≡ i → ⊥). let old = a.known k l e in (same_missing n None f k l ne ∙ old.0, old.1))
           (cases_eq k i);
       tried = λ l k lt e.
           ⊎_elim
-          (λ (q : k ≡ i). subst (λ (j : ℕ). missing n r (member gs j) ≡ true) (sym q) (f.failed refl))
+          (λ (q : k ≡ i). subst (λ (j : ℕ). missing n r (member gs j) ≡ true) (sym q) f.answer)
           (λ (ne : k ≡ i → ⊥). missing_stays s n r (member gs k) (f.frame.stays _) (a.tried l k (omega arith) e))
           (cases_eq k i);
       rest = λ k l. a.rest k (omega arith);

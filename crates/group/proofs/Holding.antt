@@ -54,11 +54,13 @@ module _ {X : Type 0} (k : Ghosts X) (t r : ℕ) (gs : List Member) where
       let u = a.known i (omega arith) z in
       u.1 ∙ h.whole (fine_before m n r gs (Ours gs) NoBlock a.frame (k.tolerance (length gs)) (fine_since _ m n r gs o bs a few)) i (omega arith) (back m n r gs (Ours gs) NoBlock a.frame i u.0)
 
-  -- what a function of the method ensures, at the number of blocks
-  pub at_length : (Q : ℕ → List (List ℕ) → Type 0) (o : List Bool) (bs : List (List ℕ)) (l : ℕ) → l ≡ length gs →
-      ((us : List (List ℕ)) → Blocks (k.width l) us → Agree o bs (k.row l t us) → Q l us) →
-      (us : List (List ℕ)) → Blocks (k.width (length gs)) us → Agree o bs (k.row (length gs) t us) → Q (length gs) us
-  at_length Q o bs l e told = subst (λ (j : ℕ). (us : List (List ℕ)) → Blocks (k.width j) us → Agree o bs (k.row j t us) → Q j us) e told
+  -- what is told of the parts of a row, at the number of its members and its strip
+  pub at_row : (Q : ℕ → ℕ → List (List ℕ) → Type 0) (o : List Bool) (bs : List (List ℕ)) (l z : ℕ) → l ≡ length gs → z ≡ t →
+      ((us : List (List ℕ)) → Blocks (k.width l) us → Agree o bs (k.row l z us) → Q l z us) →
+      (us : List (List ℕ)) → Blocks (k.width (length gs)) us → Agree o bs (k.row (length gs) t us) → Q (length gs) t us
+  at_row Q o bs l z el ez told =
+      subst (λ (x : ℕ). (us : List (List ℕ)) → Blocks (k.width (length gs)) us → Agree o bs (k.row (length gs) x us) → Q (length gs) x us) ez
+      (subst (λ (j : ℕ). (us : List (List ℕ)) → Blocks (k.width j) us → Agree o bs (k.row j z us) → Q j z us) el told)
 
   module _ (s : Sound k.least k.width k.cycle k.home k.check k.row k.tolerance) (few : k.least ≤ length gs) (many : length gs ≤ 8)
       (p : ℕ) (here : p < k.width (length gs)) (us : List (List ℕ)) (u : Blocks (k.width (length gs)) us) (new : List ℕ) where

@@ -1,5 +1,5 @@
 -- From what is told of a row to what a call on its group says.
-use Rattle.std.proofs.Common.{◌≡◌, ℕ, ◌+◌, ◌/◌, ◌<◌, List, ◌++◌, length, take, drop, set, Ok, Err, sym, refl, ap, ◌∙◌, subst, inl, inr, ⊎_elim, arith}
+use Rattle.std.proofs.Common.{◌≡◌, ℕ, ◌+◌, ◌/◌, ◌<◌, List, ◌++◌, length, take, drop, set, Ok, Err, Result, sym, refl, ap, ◌∙◌, subst, inl, inr, ⊎_elim, arith}
 use Rattle.std.proofs.lemmas.List.{get_or-take, length-take-le}
 use Rattle.std.proofs.lemmas.Bool.{cases_order}
 use Rattle.bus.specs.Drives.{Drive, size}
@@ -10,10 +10,11 @@ use Rattle.layout.specs.declared.geometry.Place.{Place}
 use Rattle.group.specs.declared.record.Group.{Group}
 use Rattle.group.specs.declared.fault.RowFault.{RowFault}
 use Rattle.group.specs.declared.fault.RowFault.TheVariants.{Lost as LostAt, Failed as FailedAt}
-use Rattle.group.specs.declared.fault.GroupFault.{GroupFault}
 use Rattle.group.specs.Group.{nobody, member, missing, BlockLost, RowHolds, Shape}
 use Rattle.group.specs.Requests.{Blames, HomeFirst, RowRead, RowWrite, RowRebuild}
-use Rattle.group.specs.Record.{width_of, members_of, Lies, Ready, Blamable, raised, Names, ReadOk, Reads, WriteOk, Writes, next_row, Rebuildable, RebuildOk, Rebuilds}
+use Rattle.group.specs.declared.member.Member.{Member}
+use Rattle.group.proofs.Answering.{mapped}
+use Rattle.group.specs.Record.{width_of, members_of, Lies, Ready, raised, Names, ReadOk, Reads, WriteOk, Writes, next_row, Rebuildable, Rebuilds}
 
 module _ (g : Group) (eight : length g.members ≡ 8) where
   pub length_members : length (members_of g) ≡ width_of g
@@ -52,10 +53,6 @@ module _ {X : Type 0} (k : Ghosts X) (s : Sound k.least k.width k.cycle k.home k
   home_is : k.home (length (members_of g)) a.strip a.slot ≡ a.member
   home_is = ap (λ v. k.home v a.strip a.slot) (length_members g eight) ∙ sym ready.place.at_home
 
-  pub lost_blamable : (e : RowFault) → RowRead k m n a.strip a.row a.slot (Err e) (members_of g) → Blamable g e
-  lost_blamable (LostAt j r) h = (omega (arith, h.settled.0.inside, length_members g eight), omega (arith, h.settled.0.row, ready.place.row_inside))
-  lost_blamable (FailedAt f j r) h = absurd h.settled
-
   pub read_ok : (is b : List ℕ) → RowRead k m n a.strip a.row a.slot (Ok b) (members_of g) → is ≡ b ++ drop 512 was → ReadOk k m n g q was is a
   read_ok is b h e = record {
     served = record { ready = ready; frame = h.frame };
@@ -65,8 +62,8 @@ module _ {X : Type 0} (k : Ghosts X) (s : Sound k.least k.width k.cycle k.home k
     gives = λ us u w. e ∙ ap (λ v. v ++ drop 512 was) (h.gives us u w);
   }
 
-  pub read_refused : (U : Type 0) (e : RowFault) (z : GroupFault) → RowRead k m n a.strip a.row a.slot (Err e) (members_of g) → z ≡ raised g e → Reads {U = U} k m n g q was was (Err z)
-  read_refused U (LostAt j r) z h is = subst (λ v. Reads {U = U} k m n g q was was (Err v)) (sym is) (
+  pub read_refused : (U : Type 0) (e : RowFault) → RowRead k m n a.strip a.row a.slot (Err e) (members_of g) → Reads {U = U} k m n g q was was (Err (raised g e))
+  read_refused U (LostAt j r) h = (
     a,
     record {
       served = record { ready = ready; frame = h.frame };
@@ -76,7 +73,7 @@ module _ {X : Type 0} (k : Ghosts X) (s : Sound k.least k.width k.cycle k.home k
       buffer = refl;
     },
   )
-  read_refused U (FailedAt f j r) z h is = absurd h.settled
+  read_refused U (FailedAt f j r) h = absurd h.settled
 
 module _ {X : Type 0} (k : Ghosts X) (s : Sound k.least k.width k.cycle k.home k.check k.row k.tolerance) (m n : List Drive) (g : Group) (eight : length g.members ≡ 8) (q : ℕ) (bytes : List ℕ) (a : Place) (ready : Ready k m g q (length bytes) a) where
   write_home : k.home (length (members_of g)) a.strip a.slot ≡ a.member
@@ -90,8 +87,9 @@ module _ {X : Type 0} (k : Ghosts X) (s : Sound k.least k.width k.cycle k.home k
     changes = subst (λ v. (us : List (List ℕ)) → Blocks (k.width (length (members_of g))) us → RowHolds k a.strip m a.row (members_of g) us → RowHolds k a.strip n a.row (members_of g) (set us a.slot v)) e h.changes;
   }
 
-  pub write_refused : (U : Type 0) (new : List ℕ) (e : RowFault) (z : GroupFault) → RowWrite {U = U} k m n a.strip a.row a.slot new (Err e) (members_of g) → z ≡ raised g e → Writes {U = U} k m n g q bytes (Err z)
-  write_refused U new (LostAt j r) z h is = subst (λ v. Writes {U = U} k m n g q bytes (Err v)) (sym is) (
+  pub write_told : (U : Type 0) (new : List ℕ) (x : Result U RowFault) → RowWrite k m n a.strip a.row a.slot new x (members_of g) → new ≡ take 512 bytes → Writes k m n g q bytes (mapped (raised g) x)
+  write_told U new (Ok u) h e = (a, write_ok U u new h e)
+  write_told U new (Err (LostAt j r)) h e = (
     a,
     record {
       served = record { ready = ready; frame = h.frame };
@@ -100,16 +98,22 @@ module _ {X : Type 0} (k : Ghosts X) (s : Sound k.least k.width k.cycle k.home k
       keeps = h.changes;
     },
   )
-  write_refused U new (FailedAt f j r) z h is = absurd h.decided
+  write_told U new (Err (FailedAt f j r)) h e = absurd h.decided
 
 module _ {X : Type 0} (k : Ghosts X) (m n : List Drive) (g : Group) (eight : length g.members ≡ 8) (i : ℕ) (ready : Rebuildable k m g i) where
-  pub rebuild_refused : (U : Type 0) (e : RowFault) (z : GroupFault) → RowRebuild {U = U} k m n (next_row g i / g.geometry.depth) (next_row g i) i (Err e) (members_of g) → z ≡ raised g e → Rebuilds {U = U} k m n g i (Err z)
-  rebuild_refused U (LostAt j r) z h is = subst (λ v. Rebuilds {U = U} k m n g i (Err v)) (sym is) record {
+  pub rebuild_told : (U : Type 0) (x : Result U RowFault) → RowRebuild k m n (next_row g i / g.geometry.depth) (next_row g i) i x (members_of g) → Rebuilds k m n g i (mapped (raised g) x)
+  rebuild_told U (Ok u) h = record {
+    rebuilt = record { ready = ready; frame = h.frame; keeps = h.keeps };
+    intact = h.rebuilds.0;
+    works = h.rebuilds.1;
+    holds = h.rebuilds.2;
+  }
+  rebuild_told U (Err (LostAt j r)) h = record {
     rebuilt = record { ready = ready; frame = h.frame; keeps = h.keeps };
     lost = h.rebuilds.1;
     names = blames_named g eight n (next_row g i) j r h.rebuilds.0;
   }
-  rebuild_refused U (FailedAt f j r) z h is = subst (λ v. Rebuilds {U = U} k m n g i (Err v)) (sym is) record {
+  rebuild_told U (Err (FailedAt f j r)) h = record {
     rebuilt = record { ready = ready; frame = h.frame; keeps = h.keeps };
     intact = h.rebuilds.3;
     broken = h.rebuilds.4;
@@ -119,10 +123,7 @@ module _ {X : Type 0} (k : Ghosts X) (m n : List Drive) (g : Group) (eight : len
     fault = h.rebuilds.0;
   }
 
-  pub rebuild_ok : (U : Type 0) (u : U) → RowRebuild k m n (next_row g i / g.geometry.depth) (next_row g i) i (Ok u) (members_of g) → RebuildOk k m n g i
-  rebuild_ok U u h = record {
-    rebuilt = record { ready = ready; frame = h.frame; keeps = h.keeps };
-    intact = h.rebuilds.0;
-    works = h.rebuilds.1;
-    holds = h.rebuilds.2;
-  }
+-- what is told of a row, at its strip, its number, its members and the answer
+pub told_at : {X : Type 0} (P : ℕ → ℕ → List Member → X → Type 0) (t z r q : ℕ) (gs hs : List Member) (x y : X) → t ≡ z → r ≡ q → gs ≡ hs → x ≡ y → P t r gs x → P z q hs y
+told_at P t z r q gs hs x y et er eg ex h =
+    subst (λ v. P v q hs y) et (subst (λ v. P t v hs y) er (subst (λ v. P t r v y) eg (subst (λ v. P t r gs v) ex h)))

@@ -20,6 +20,12 @@ pub record Blames (n : List Drive) (r : ℕ) (gs : List Member) (j q : ℕ) : Ty
   pub inside : j < length gs
   pub gone : missing n r (member gs j) ≡ true
 
+-- refused where, and only where, the row is lost
+abbrev pub Intact : {U : Type 0} → ℕ → List Drive → ℕ → List Member → Result U RowFault → Type 0
+Intact tolerance n r gs (Ok u) = RowLost tolerance n r gs → ⊥
+Intact tolerance n r gs (Err (Lost j q)) = Blames n r gs j q × RowLost tolerance n r gs
+Intact tolerance n r gs (Err (Failed f j q)) = ⊥
+
 -- at the end: refused where, and only where, the block with home i is lost
 abbrev pub Settled : {U : Type 0} → ℕ → List Drive → ℕ → List Member → ℕ → Result U RowFault → Type 0
 Settled tolerance n r gs i (Ok u) = BlockLost tolerance n r gs i → ⊥

@@ -1,5 +1,5 @@
 -- What one request at a member does: m is the meaning of the bus before, and n after.
-use Rattle.std.specs.Prelude.{◌≡◌, ℕ, ◌+◌, Bool, true, false, List, Ok, Err, Result}
+use Rattle.std.specs.Prelude.{◌≡◌, ℕ, ◌+◌, true, false, List, Ok, Err, Result, Option, MatchOption}
 use Rattle.bus.specs.Drives.{Drive, at}
 use Rattle.bus.specs.declared.fault.BusFault.TheVariants.{Broken}
 use Rattle.group.specs.declared.member.Member.{Member}
@@ -7,11 +7,10 @@ use Rattle.group.specs.declared.fault.RowFault.{RowFault}
 use Rattle.group.specs.declared.fault.RowFault.TheVariants.{Lost, Failed}
 use Rattle.group.specs.Group.{missing, held, Frame, Its, ItsBlock, NoBlock}
 
--- b: the member was read, into buf
-pub record Fetched (m n : List Drive) (r : ℕ) (g : Member) (buf : List ℕ) (b : Bool) : Type 0 where
+-- the member's block was read, or the member is missing now
+pub record Fetched (m n : List Drive) (r : ℕ) (g : Member) (x : Option (List ℕ)) : Type 0 where
   pub frame : Frame m n (Its g) NoBlock
-  pub read : b ≡ true → (missing n r g ≡ false) × (buf ≡ held m r g)
-  pub failed : b ≡ false → missing n r g ≡ true
+  pub answer : MatchOption x (missing n r g ≡ true) (λ b. (missing n r g ≡ false) × (b ≡ held m r g))
 
 -- the member was sent xs, unless it is missing
 pub record Sent (m n : List Drive) (r : ℕ) (g : Member) (xs : List ℕ) : Type 0 where

@@ -4,44 +4,46 @@ ghost use Rattle.bus.specs.Drives.{size};
 ghost use Rattle.group.specs.Steps.{Fetched, Sent, Stores};
 
 use crate::fault::{AtRow, RowFault};
-use crate::member::{Member, is_missing};
+use crate::member::Member;
 use bus::Bus;
 use layout::block::Block;
 
-// Reads the member's block of the row `r`; whether that was done.
-pub(crate) fn fetch<B: Bus>(bus: &mut B, g: Member, r: usize, block: &mut Block) -> bool
-    requires { g.start + r < size (B.Bus.drives bus.old) g.drive }
-    ensures { Fetched (B.Bus.drives bus.old) (B.Bus.drives bus.new) r g block.new result }
-{
-    if is_missing(bus, g, r) {
-        return false;
+impl Member {
+    // The member's block of a row, if it is not missing and its drive gives it.
+    pub(crate) fn fetch<B: Bus>(self, bus: &mut B, row: usize) -> Option<Block>
+        requires { self.start + row < size (B.Bus.drives bus.old) self.drive }
+        ensures { Fetched (B.Bus.drives bus.old) (B.Bus.drives bus.new) row self result }
+    {
+        if self.missing_in(bus, row) {
+            return None;
+        }
+        let mut block = [0; 512];
+        bus.read(self.drive, self.start + row, &mut block).ok()?;
+        Some(block)
     }
-    match bus.read(g.drive, g.start + r, block) {
-        Ok(()) => true,
-        Err(_) => false,
-    }
-}
 
-// Writes the member's block of the row `r`, unless the member is missing.
-pub(crate) fn send<B: Bus>(bus: &mut B, g: Member, r: usize, bytes: &Block)
-    requires { g.start + r < size (B.Bus.drives bus.old) g.drive }
-    ensures { Sent (B.Bus.drives bus.old) (B.Bus.drives bus.new) r g bytes.now }
-{
-    if !is_missing(bus, g, r) {
-        let _ = bus.write(g.drive, g.start + r, bytes);
+    // Writes the member's block of a row, unless the member is missing.
+    pub(crate) fn send<B: Bus>(self, bus: &mut B, row: usize, bytes: &Block)
+        requires { self.start + row < size (B.Bus.drives bus.old) self.drive }
+        ensures { Sent (B.Bus.drives bus.old) (B.Bus.drives bus.new) row self bytes.now }
+    {
+        if !self.missing_in(bus, row) {
+            let _ = bus.write(self.drive, self.start + row, bytes);
+        }
     }
-}
 
-// Writes the block of the row `r` of the member `i`, which is `g`, even if it is missing.
-pub(crate) fn store<B: Bus>(
-    bus: &mut B,
-    g: Member,
-    i: usize,
-    r: usize,
-    bytes: &Block,
-) -> Result<(), RowFault>
-    requires { g.start + r < size (B.Bus.drives bus.old) g.drive }
-    ensures { Stores (B.Bus.drives bus.old) (B.Bus.drives bus.new) r g i bytes.now result }
-{
-    bus.write(g.drive, g.start + r, bytes).at_row(i, r)
+    // Writes the block of a row of this member, which is the member `i`, even if it is missing.
+    pub(crate) fn store<B: Bus>(
+        self,
+        bus: &mut B,
+        i: usize,
+        row: usize,
+        bytes: &Block,
+    ) -> Result<(), RowFault>
+        requires { self.start + row < size (B.Bus.drives bus.old) self.drive }
+        ensures { Stores (B.Bus.drives bus.old) (B.Bus.drives bus.new) row self i bytes.now result }
+    {
+        bus.write(self.drive, self.start + row, bytes)
+            .at_row(i, row)
+    }
 }

@@ -1,12 +1,12 @@
 //! The calls on a group.
 ghost use Rattle.std.specs.Prelude.{◌≡◌, ℕ, ◌+◌, ◌<◌, ◌≤◌, ◌++◌, length, take, drop, MatchBool};
 ghost use Rattle.group.specs.Elsewhere.{OthersHold};
-ghost use Rattle.group.specs.Record.{members_of, Lies, Admits, Blamable, raised, Reads, Writes, Prepares, Rebuilds};
+ghost use Rattle.group.specs.Record.{width_of, members_of, Lies, Admits, Blamable, raised, Reads, Writes, Prepares, Rebuilds};
 
 use crate::fault::{GroupFault, RowFault};
 use crate::member::Member;
 use crate::record::Group;
-use crate::rows::{read_block, rebuild_row, write_block};
+use crate::rows::Row;
 use bus::{BLOCK, Bus};
 use layout::block::Block;
 use layout::geometry::Place;
@@ -21,20 +21,11 @@ impl Group {
         &self.members[0..self.geometry.members()]
     }
 
-    // Whether the row `r` lies on every member's drive.
-    fn lies<B: Bus>(&self, bus: &B, r: usize) -> bool
-        ensures { MatchBool result (Lies (B.Bus.drives bus.now) self.now r) (Lies (B.Bus.drives bus.now) self.now r → ⊥) }
+    // Whether a row lies on every member's drive.
+    fn lies<B: Bus>(&self, bus: &B, row: usize) -> bool
+        ensures { MatchBool result (Lies (B.Bus.drives bus.now) self.now row) (Lies (B.Bus.drives bus.now) self.now row → ⊥) }
     {
-        for i in 0..self.geometry.members() {
-            let size = bus.capacity(self.members[i].drive);
-            if self.members[i].start >= size {
-                return false;
-            }
-            if r >= size - self.members[i].start {
-                return false;
-            }
-        }
-        true
+        self.active().iter().all(|g| g.reaches(bus, row))
     }
 
     // The place of protected block `q`, where a buffer of `len` bytes may be moved from or to it.
@@ -47,16 +38,24 @@ impl Group {
         if len < BLOCK {
             return Err(GroupFault::Short);
         }
-        match self.geometry.locate::<M>(q) {
-            Ok(place) => {
-                if self.lies(bus, place.row) {
-                    Ok(place)
-                } else {
-                    Err(GroupFault::Outside)
-                }
-            }
-            Err(_) => Err(GroupFault::Outside),
+        let place = self
+            .geometry
+            .locate::<M>(q)
+            .map_err(|_| GroupFault::Outside)?;
+        if !self.lies(bus, place.row) {
+            return Err(GroupFault::Outside);
         }
+        Ok(place)
+    }
+
+    // A row of the group, and the strip that it is of.
+    fn row<M: Method>(&self, strip: usize, row: usize) -> Row<'_, M>
+        requires { M.Method.least ≤ width_of self.now }
+        ensures members { result.members.now ≡ members_of self.now }
+        ensures strip { result.strip ≡ strip }
+        ensures row { result.row ≡ row }
+    {
+        Row::new(self.active(), strip, row)
     }
 
     // What a fault at a row of this group says above it.
@@ -91,13 +90,12 @@ impl Group {
         ensures { Reads M.Method (B.Bus.drives bus.old) (B.Bus.drives bus.new) self.now q buf.old buf.new result }
     {
         let place = self.admit::<B, M>(bus, q, buf.len())?;
-        match read_block::<B, M>(bus, self.active(), place.strip, place.row, place.slot) {
-            Ok(block) => {
-                put_front(buf, &block);
-                Ok(())
-            }
-            Err(fault) => Err(self.blame(fault)),
-        }
+        let row = self.row::<M>(place.strip, place.row);
+        let block = row
+            .read(bus, place.slot)
+            .map_err(|fault| self.blame(fault))?;
+        put_front(buf, &block);
+        Ok(())
     }
 
     /// Writes the first 512 of `bytes` to protected block `q`.
@@ -111,10 +109,9 @@ impl Group {
     {
         let place = self.admit::<B, M>(bus, q, bytes.len())?;
         let new = front(bytes);
-        match write_block::<B, M>(bus, self.active(), place.strip, place.row, place.slot, &new) {
-            Ok(()) => Ok(()),
-            Err(fault) => Err(self.blame(fault)),
-        }
+        let row = self.row::<M>(place.strip, place.row);
+        row.write(bus, place.slot, &new)
+            .map_err(|fault| self.blame(fault))
     }
 
     // The next row of member `i` that is to be rebuilt.
@@ -131,11 +128,10 @@ impl Group {
         if r >= self.geometry.rows() {
             return Err(GroupFault::Whole);
         }
-        if self.lies(bus, r) {
-            Ok(r)
-        } else {
-            Err(GroupFault::Outside)
+        if !self.lies(bus, r) {
+            return Err(GroupFault::Outside);
         }
+        Ok(r)
     }
 
     /// Rebuilds the next row of member `i`, the one at its mark.
@@ -143,11 +139,8 @@ impl Group {
         ensures { Rebuilds M.Method (B.Bus.drives bus.old) (B.Bus.drives bus.new) self.now i result }
     {
         let r = self.prepare::<B, M>(bus, i)?;
-        let t = self.geometry.strip_of(r);
-        match rebuild_row::<B, M>(bus, self.active(), t, r, i) {
-            Ok(()) => Ok(()),
-            Err(fault) => Err(self.blame(fault)),
-        }
+        let row = self.row::<M>(self.geometry.strip_of(r), r);
+        row.rebuild(bus, i).map_err(|fault| self.blame(fault))
     }
 }
 

@@ -1,7 +1,12 @@
-use Rattle.std.proofs.Common.{arith}
-use Rattle.group.proofs.Counts.{no_member_missing}
+use Rattle.std.proofs.Common.{◌≡◌, true, false, rules, tests}
+use Rattle.std.proofs.lemmas.Iterator.{IsFirst-from_position, YieldsList-from_slice}
+use Rattle.group.specs.Group.{missing}
+use Rattle.group.proofs.Counts.{first_gone}
 use Rattle.group.proofs.sweeps.first_missing_member.Goals as goal
 
-pub unreachable-requires : goal.unreachable-requires
-unreachable-requires g c =
-    omega (arith, c.requires, no_member_missing (g.B.Bus.drives c.args.bus.now) c.args.r c.args.members.now (λ k h. c.loop-i.invariant k (omega (arith, c.loop-i-test.false))))
+pub returns : goal.returns
+returns g c =
+    let m = g.B.Bus.drives c.args.bus.now in
+    first_gone m c.args.row c.args.members.now c.position.result
+    (IsFirst-from_position _ _ _ (λ v. missing m c.args.row v ≡ true) (λ v. missing m c.args.row v ≡ false) c.position.ensures.ran (YieldsList-from_slice c.args.members.now cc)
+    (λ x q k. search (rules, tests)) (λ x q k. search (rules, tests)))

@@ -1,43 +1,19 @@
-use Rattle.std.proofs.Common.{◌≡◌, ◌<◌, length, Ok, Err, sym, ap, ◌∙◌, subst, arith}
-use Rattle.group.specs.Group.{Shape}
-use Rattle.group.specs.Record.{width_of}
+use Rattle.std.proofs.Common.{sym, refl, subst, rules}
+use Rattle.group.specs.Record.{raised, Writes}
 use Rattle.group.specs.Requests.{RowWrite}
-use Rattle.group.proofs.Recording.{length_members, shape_of, write_ok, write_refused}
+use Rattle.group.proofs.Answering.{is_mapped}
+use Rattle.group.proofs.Recording.{write_told, told_at}
 use Rattle.group.proofs.record.Group.write.Goals as goal
 
-pub write_block-requires : goal.write_block-requires
-write_block-requires g c =
+pub returns : goal.returns
+returns g c =
     let a = c.in_ok-place.place in
-    let ready = c.in_ok-place.ensures in
+    let told = c.write.ensures in
     let group = c.args.self.now in
-    let eight = c.active.ensures.eight in
-    let long : length c.active.result.now ≡ width_of group = ap length c.active.ensures.value ∙ length_members group eight in
-    record {
-      shape = subst (λ v. Shape (g.B.Bus.drives c.args.bus.now) a.row v) (sym c.active.ensures.value) (shape_of group eight (g.B.Bus.drives c.args.bus.now) a.row ready.lies);
-      size = (omega (arith, ready.enough, long), omega (arith, group.geometry.few_members, long));
-      user = subst (λ v. a.slot < g.M.Method.width v) (sym long) ready.place.slot_inside;
-    }
-
-pub returns-in-Ok : goal.returns-in-Ok
-returns-in-Ok g c =
-    let a = c.in_ok-place.place in
-    let told = c.in-Ok.ensures in
     let m = g.B.Bus.drives c.args.bus.now in
-    let n = g.B.Bus.drives c.write_block.new.bus in (
-      a,
-      write_ok g.M.Method g.met.M.Method.sound m n c.args.self.now c.active.ensures.eight c.args.q c.args.bytes.now a c.in_ok-place.ensures (Unit {0}) tt c.front-new.result
-          (subst (λ v. RowWrite g.M.Method m n a.strip a.row a.slot c.front-new.result (Ok tt) v) c.active.ensures.value
-          (record { frame = told.frame; decided = told.decided; changes = told.changes }))
-          c.front-new.ensures,
-    )
-
-pub returns-in-Err : goal.returns-in-Err
-returns-in-Err g c =
-    let a = c.in_ok-place.place in
-    let told = c.in-Err.ensures in
-    let m = g.B.Bus.drives c.args.bus.now in
-    let n = g.B.Bus.drives c.write_block.new.bus in
-    write_refused g.M.Method g.met.M.Method.sound m n c.args.self.now c.active.ensures.eight c.args.q c.args.bytes.now a c.in_ok-place.ensures (Unit {0}) c.front-new.result c.in-Err.fault c.blame.result
-    (subst (λ v. RowWrite {U = Unit {0}} g.M.Method m n a.strip a.row a.slot c.front-new.result (Err c.in-Err.fault) v) c.active.ensures.value
+    let n = g.B.Bus.drives c.write.new.bus in
+    subst (λ v. Writes {U = Unit {0}} g.M.Method m n group c.args.q c.args.bytes.now v) (sym (is_mapped (raised group) c.write.result c.map_err.result _ (λ e d made. search rules) c.map_err.ensures.cases))
+    (write_told g.M.Method g.met.M.Method.sound m n group group.eight c.args.q c.args.bytes.now a c.in_ok-place.ensures (Unit {0}) c.front-new.result c.write.result
+    (told_at (λ t r gs y. RowWrite g.M.Method m n t r a.slot c.front-new.result y gs) _ a.strip _ a.row _ _ _ c.write.result c.row-row.ensures.strip c.row-row.ensures.row c.row-row.ensures.members refl
     (record { frame = told.frame; decided = told.decided; changes = told.changes }))
-    c.blame.ensures
+    c.front-new.ensures)
