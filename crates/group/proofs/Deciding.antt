@@ -22,8 +22,8 @@ decides st m n r gs i (Ok u) fine h = (fine, h)
 decides st m n r gs i (Err (Lost j q)) fine h = (h.0, inr (fine, h.1))
 decides st m n r gs i (Err (Failed f j q)) fine h = absurd h
 
-module _ {X : Type 0} (k : Ghosts X) (t r : ℕ) (gs : List Member) (s : Sound k.least k.width k.cycle k.home k.check k.row k.tolerance)
-    (few : k.least ≤ length gs) (many : length gs ≤ 8) (p : ℕ) (here : p < k.width (length gs)) (new : List ℕ) (m n : List Drive)
+module _ {X : Type 0} (k : Ghosts X) (t r : ℕ) (gs : List Member) (s : Sound k.LEAST k.width k.cycle k.home k.check k.row k.tolerance)
+    (few : k.LEAST ≤ length gs) (many : length gs ≤ 8) (p : ℕ) (here : p < k.width (length gs)) (new : List ℕ) (m n : List Drive)
     (holds : (us : List (List ℕ)) → Blocks (k.width (length gs)) us → RowHolds k t m r gs us → RowHolds k t n r gs (set us p new)) where
   pub changes : {U : Type 0} (x : Result U RowFault) → Settled (k.tolerance (length gs)) n r gs (k.home (length gs) t p) x → Changes k t m n r gs p new x
   changes (Ok u) h = holds

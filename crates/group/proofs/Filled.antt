@@ -68,12 +68,12 @@ module _ (m s n : List Drive) (e : ExtentRow) (k : ℕ) (inside : k < e.count) (
       (frame_wider s (broke s e.drive) (OneDrive e) (OneDrive e) NoBlock (Covers e) (λ d x. x) (λ d b x. absurd x) (broke_frame s e.drive h)))
 
   pub filled_stops : (f : BusFault) → Faults s n e.drive (e.start + k) (length zeros) f → Frame m n (OneDrive e) (Covers e) × (k < e.count) × Stops n e k f
-  filled_stops (NoDrive d b) q =
+  filled_stops (NoDrive a) q =
       (same_frame q.1.same, inside, (q.0.drive, q.0.place, omega (arith, ap length q.1.same, q.1.beyond)))
-  filled_stops (Length d b) q = absurd (q.1.other refl)
-  filled_stops (Range d b) q =
+  filled_stops (Length a) q = absurd (q.1.other refl)
+  filled_stops (Range a) q =
       (same_frame q.1.same, inside, (q.0.drive, q.0.place, omega (arith, ap (λ (o : List Drive). size o e.drive) q.1.same, q.1.beyond)))
-  filled_stops (Broken d b) q = (
+  filled_stops (Broken a) q = (
     broke_now q.1.placed.exists q.1.broken,
     inside,
     (q.0.drive, q.0.place, ap (λ (o : List Drive). (at o e.drive).broken) q.1.broken ∙ broke_there s e.drive q.1.placed.exists),

@@ -4,6 +4,7 @@ use Rattle.std.proofs.lemmas.List.{get_or-set_same, get_or-set_other, length-set
 use Rattle.std.proofs.lemmas.Bool.{cases_eq, cases_Bool, both_ways, or_cases, or_left, or_right}
 use Rattle.bus.specs.declared.fault.BusFault.{BusFault}
 use Rattle.bus.specs.declared.fault.BusFault.TheVariants.{NoDrive, Length, Range, Broken}
+use Rattle.bus.specs.Numbers.{broken_at}
 use Rattle.bus.specs.Drives.{Drive, at, size, block, stored, broke, absent}
 use Rattle.bus.specs.Requests.{Placed, Faults, Writes}
 use Rattle.bus.proofs.Changing.{there_by_size}
@@ -81,10 +82,10 @@ module _ (m : List Drive) (d : ℕ) (h : d < length m) where
 
 -- a request that is placed is refused by a breakage alone
 pub fault_broke : (m n : List Drive) (d b len : ℕ) (e : BusFault) → Placed m d b len → Faults m n d b len e → n ≡ broke m d
-fault_broke m n d b len (NoDrive i j) p q = absurd (omega (arith, p.exists, q.1.beyond))
-fault_broke m n d b len (Length i j) p q = absurd (q.1.other p.whole)
-fault_broke m n d b len (Range i j) p q = absurd (omega (arith, p.within, q.1.beyond))
-fault_broke m n d b len (Broken i j) p q = q.1.broken
+fault_broke m n d b len (NoDrive a) p q = absurd (omega (arith, p.exists, q.1.beyond))
+fault_broke m n d b len (Length a) p q = absurd (q.1.other p.whole)
+fault_broke m n d b len (Range a) p q = absurd (omega (arith, p.within, q.1.beyond))
+fault_broke m n d b len (Broken a) p q = q.1.broken
 
 module _ (m n : List Drive) (r : ℕ) (g : Member) where
   pub missing_broken : (at n g.drive).broken ≡ true → missing n r g ≡ true
@@ -147,13 +148,13 @@ missing_count_more m n r (g ∷ gs) f =
 
 module _ (m n : List Drive) (r : ℕ) (g : Member) (i : ℕ) where
   pub store_failed : (U : Type 0) (xs : List ℕ) (len : ℕ) (e : BusFault) → Placed m g.drive (g.start + r) len → Faults m n g.drive (g.start + r) len e → Stores {U = U} m n r g i xs (Err (Failed e i r))
-  store_failed U xs len (NoDrive a b) p q = absurd (omega (arith, p.exists, q.1.beyond))
-  store_failed U xs len (Length a b) p q = absurd (q.1.other p.whole)
-  store_failed U xs len (Range a b) p q = absurd (omega (arith, p.within, q.1.beyond))
-  store_failed U xs len (Broken a b) p q = (
+  store_failed U xs len (NoDrive a) p q = absurd (omega (arith, p.exists, q.1.beyond))
+  store_failed U xs len (Length a) p q = absurd (q.1.other p.whole)
+  store_failed U xs len (Range a) p q = absurd (omega (arith, p.within, q.1.beyond))
+  store_failed U xs len (Broken a) p q = (
     subst (λ (o : List Drive). Frame m o (Its g) (ItsBlock r g)) (sym q.1.broken)
         (frame_wider m (broke m g.drive) (Its g) (Its g) NoBlock (ItsBlock r g) (λ d x. x) (λ d c x. absurd x) (broke_frame m g.drive p.exists)),
-    ap (λ (d : ℕ). Broken d b) q.0.drive ∙ ap (λ (c : ℕ). Broken g.drive c) q.0.place,
+    ap (λ (d : ℕ). broken_at d a.block) q.0.drive ∙ ap (broken_at g.drive) q.0.place,
     refl,
     refl,
     subst (λ (o : List Drive). (at o g.drive).broken ≡ true) (sym q.1.broken) (broke_there m g.drive p.exists),
@@ -168,5 +169,5 @@ module _ (m n : List Drive) (r : ℕ) (g : Member) (i : ℕ) where
   stores_by {U} xs (Err e) h w q = store_failed U xs (length xs) e (placed_by m n r g h (length xs) w) q
 
 -- a group has a member
-pub one_member : {X : Type 0} (k : Ghosts X) → Sound k.least k.width k.cycle k.home k.check k.row k.tolerance → {n : ℕ} → k.least ≤ n → 1 ≤ n
+pub one_member : {X : Type 0} (k : Ghosts X) → Sound k.LEAST k.width k.cycle k.home k.check k.row k.tolerance → {n : ℕ} → k.LEAST ≤ n → 1 ≤ n
 one_member k s few = omega (arith, s.least_some)

@@ -62,7 +62,7 @@ module _ {X : Type 0} (k : Ghosts X) (t r : ℕ) (gs : List Member) where
       subst (λ (x : ℕ). (us : List (List ℕ)) → Blocks (k.width (length gs)) us → Agree o bs (k.row (length gs) x us) → Q (length gs) x us) ez
       (subst (λ (j : ℕ). (us : List (List ℕ)) → Blocks (k.width j) us → Agree o bs (k.row j z us) → Q j z us) el told)
 
-  module _ (s : Sound k.least k.width k.cycle k.home k.check k.row k.tolerance) (few : k.least ≤ length gs) (many : length gs ≤ 8)
+  module _ (s : Sound k.LEAST k.width k.cycle k.home k.check k.row k.tolerance) (few : k.LEAST ≤ length gs) (many : length gs ≤ 8)
       (p : ℕ) (here : p < k.width (length gs)) (us : List (List ℕ)) (u : Blocks (k.width (length gs)) us) (new : List ℕ) where
     home : ℕ → ℕ
     home q = k.home (length gs) t q
@@ -159,7 +159,7 @@ module _ {X : Type 0} (k : Ghosts X) (t r : ℕ) (gs : List Member) where
     in_not : (j : ℕ) → missing n r (member gs j) ≡ false → j ≢ i
     in_not j e z = both_ways (missing n r (member gs j)) e (subst (λ (a : ℕ). missing n r (member gs a) ≡ true) (sym z) (missing_behind n))
 
-    pub holds_behind : (s : Sound k.least k.width k.cycle k.home k.check k.row k.tolerance) → k.least ≤ length gs → length gs ≤ 8 → (us : List (List ℕ)) → RowHolds k t m r gs us → RowHolds k t n r gs us
+    pub holds_behind : (s : Sound k.LEAST k.width k.cycle k.home k.check k.row k.tolerance) → k.LEAST ≤ length gs → length gs ≤ 8 → (us : List (List ℕ)) → RowHolds k t m r gs us → RowHolds k t n r gs us
     holds_behind s few many us h = record {
       user = λ q l e. same_held _ (s.inside (length gs) t q (one_member k s few) many l) (in_not _ e) ∙ h.user q l (back m n r gs (Its (member gs i)) (ItsBlock r (member gs i)) f _ e);
       whole = λ fine j l e.
@@ -167,9 +167,9 @@ module _ {X : Type 0} (k : Ghosts X) (t r : ℕ) (gs : List Member) where
           ∙ h.whole (fine_before m n r gs (Its (member gs i)) (ItsBlock r (member gs i)) f (k.tolerance (length gs)) fine) j l (back m n r gs (Its (member gs i)) (ItsBlock r (member gs i)) f j e);
     }
 
-module _ {X : Type 0} (k : Ghosts X) (s : Sound k.least k.width k.cycle k.home k.check k.row k.tolerance) where
+module _ {X : Type 0} (k : Ghosts X) (s : Sound k.LEAST k.width k.cycle k.home k.check k.row k.tolerance) where
   pub holds_apart : (t r : ℕ) (gs : List Member) (us : List (List ℕ)) (m n : List Drive) (D : ℕ → Type 0) (P : ℕ → ℕ → Type 0) →
-      k.least ≤ length gs → length gs ≤ 8 → Frame m n D P → ((i : ℕ) → i < length gs → P (member gs i).drive ((member gs i).start + r) → ⊥) →
+      k.LEAST ≤ length gs → length gs ≤ 8 → Frame m n D P → ((i : ℕ) → i < length gs → P (member gs i).drive ((member gs i).start + r) → ⊥) →
       RowHolds k t m r gs us → RowHolds k t n r gs us
   holds_apart t r gs us m n D P few many f apart h = record {
     user = λ p l e. f.blocks _ _ (apart _ (s.inside (length gs) t p (one_member k s few) many l)) ∙ h.user p l (back m n r gs D P f _ e);

@@ -49,7 +49,7 @@ module _ (g : Group) (eight : length g.members ≡ 8) where
         gone = ap (missing n r) (sym (member_is j l)) ∙ b.gone;
       }
 
-module _ {X : Type 0} (k : Ghosts X) (s : Sound k.least k.width k.cycle k.home k.check k.row k.tolerance) (m n : List Drive) (g : Group) (eight : length g.members ≡ 8) (q : ℕ) (was : List ℕ) (a : Place) (ready : Ready k m g q (length was) a) where
+module _ {X : Type 0} (k : Ghosts X) (s : Sound k.LEAST k.width k.cycle k.home k.check k.row k.tolerance) (m n : List Drive) (g : Group) (eight : length g.members ≡ 8) (q : ℕ) (was : List ℕ) (a : Place) (ready : Ready k m g q (length was) a) where
   home_is : k.home (length (members_of g)) a.strip a.slot ≡ a.member
   home_is = ap (λ v. k.home v a.strip a.slot) (length_members g eight) ∙ sym ready.place.at_home
 
@@ -75,7 +75,7 @@ module _ {X : Type 0} (k : Ghosts X) (s : Sound k.least k.width k.cycle k.home k
   )
   read_refused U (FailedAt f j r) h = absurd h.settled
 
-module _ {X : Type 0} (k : Ghosts X) (s : Sound k.least k.width k.cycle k.home k.check k.row k.tolerance) (m n : List Drive) (g : Group) (eight : length g.members ≡ 8) (q : ℕ) (bytes : List ℕ) (a : Place) (ready : Ready k m g q (length bytes) a) where
+module _ {X : Type 0} (k : Ghosts X) (s : Sound k.LEAST k.width k.cycle k.home k.check k.row k.tolerance) (m n : List Drive) (g : Group) (eight : length g.members ≡ 8) (q : ℕ) (bytes : List ℕ) (a : Place) (ready : Ready k m g q (length bytes) a) where
   write_home : k.home (length (members_of g)) a.strip a.slot ≡ a.member
   write_home = ap (λ v. k.home v a.strip a.slot) (length_members g eight) ∙ sym ready.place.at_home
 

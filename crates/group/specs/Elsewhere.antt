@@ -9,6 +9,6 @@ use Rattle.group.specs.Group.{member, RowHolds, Frame, Ours, InRow}
 abbrev pub OthersHold : {X : Type 0} → Ghosts X → Type 0
 OthersHold k =
     (t r q : ℕ) (gs hs : List Member) (us : List (List ℕ)) (m n : List Drive) →
-    k.least ≤ length hs → length hs ≤ 8 → Frame m n (Ours gs) (InRow q gs) →
+    k.LEAST ≤ length hs → length hs ≤ 8 → Frame m n (Ours gs) (InRow q gs) →
     ((i j : ℕ) → i < length hs → j < length gs → (member gs j).drive ≡ (member hs i).drive → (member gs j).start + q ≢ (member hs i).start + r) →
     RowHolds k t m r hs us → RowHolds k t n r hs us

@@ -9,5 +9,5 @@ group_number OutOfRule = 3
 group_number Short = 6
 group_number Outside = 7
 group_number Whole = 8
-group_number (Lost g r m d b) = 11
+group_number (Lost g r m a) = 11
 group_number (Failed g r m f) = number_of f

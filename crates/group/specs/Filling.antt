@@ -26,10 +26,10 @@ pub record Zeroed (n : List Drive) (e : ExtentRow) (k : ℕ) : Type 0 where
 
 -- the fault is that of the drive of e in its row q: there is no such drive or block, or it is broken
 abbrev pub Stops : List Drive → ExtentRow → ℕ → BusFault → Type 0
-Stops n e q (NoDrive d b) = (d ≡ e.drive) × (b ≡ e.start + q) × (length n ≤ e.drive)
-Stops n e q (Length d b) = ⊥
-Stops n e q (Range d b) = (d ≡ e.drive) × (b ≡ e.start + q) × (size n e.drive ≤ e.start + q)
-Stops n e q (Broken d b) = (d ≡ e.drive) × (b ≡ e.start + q) × ((at n e.drive).broken ≡ true)
+Stops n e q (NoDrive a) = (a.drive ≡ e.drive) × (a.block ≡ e.start + q) × (length n ≤ e.drive)
+Stops n e q (Length a) = ⊥
+Stops n e q (Range a) = (a.drive ≡ e.drive) × (a.block ≡ e.start + q) × (size n e.drive ≤ e.start + q)
+Stops n e q (Broken a) = (a.drive ≡ e.drive) × (a.block ≡ e.start + q) × ((at n e.drive).broken ≡ true)
 
 abbrev pub OneDrive : ExtentRow → ℕ → Type 0
 OneDrive e d = e.drive ≡ d
@@ -70,5 +70,5 @@ Fills m n es number (Err OutOfRule) = ⊥
 Fills m n es number (Err Short) = ⊥
 Fills m n es number (Err Outside) = (((i : ℕ) → i < length es → Sound (extent es i)) → ⊥) × (n ≡ m)
 Fills m n es number (Err Whole) = ⊥
-Fills m n es number (Err (GroupLost x r i d b)) = ⊥
+Fills m n es number (Err (GroupLost x r i a)) = ⊥
 Fills m n es number (Err (GroupFailed x q i f)) = Stopped m n es number x q i f

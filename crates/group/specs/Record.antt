@@ -1,7 +1,7 @@
 -- A group on a bus, and what the calls on it answer: m is the meaning of the bus before, and n after.
 use Rattle.std.specs.Prelude.{◌≡◌, ℕ, ◌+◌, ◌/◌, ◌<◌, ◌≤◌, true, false, ◌⊎◌, List, [], ◌++◌, length, take, drop, Ok, Err, Result, slice_index_or, slice_set}
 use Rattle.bus.specs.declared.fault.BusFault.{BusFault}
-use Rattle.bus.specs.declared.fault.BusFault.TheVariants.{Broken}
+use Rattle.bus.specs.Numbers.{address, broken_at}
 use Rattle.bus.specs.Drives.{Drive, at, size}
 use Rattle.layout.specs.Blocks.{Blocks}
 use Rattle.layout.specs.declared.method.Method.{Ghosts}
@@ -29,7 +29,7 @@ Lies m g r = (i : ℕ) → i < width_of g → (member g.members i).start + r < s
 
 -- a call for protected block q, at the place a, with a buffer of len bytes, that comes to its drives
 pub record Ready {X : Type 0} (k : Ghosts X) (m : List Drive) (g : Group) (q len : ℕ) (a : Place) : Type 0 where
-  pub enough : k.least ≤ width_of g
+  pub enough : k.LEAST ≤ width_of g
   pub buffer : 512 ≤ len
   pub inside : q < protected k (width_of g) g.geometry.rows
   pub place : PlaceOf k (width_of g) g.geometry.depth g.geometry.rows q a
@@ -37,12 +37,12 @@ pub record Ready {X : Type 0} (k : Ghosts X) (m : List Drive) (g : Group) (q len
 
 -- which check before any work failed
 abbrev pub Unready : {X : Type 0} → Ghosts X → List Drive → Group → ℕ → ℕ → GroupFault → Type 0
-Unready k m g q len OutOfRule = width_of g < k.least
-Unready k m g q len Short = (k.least ≤ width_of g) × (len < 512)
-Unready k m g q len Outside = (k.least ≤ width_of g) × (512 ≤ len) × ((a : Place) → Ready k m g q len a → ⊥)
+Unready k m g q len OutOfRule = width_of g < k.LEAST
+Unready k m g q len Short = (k.LEAST ≤ width_of g) × (len < 512)
+Unready k m g q len Outside = (k.LEAST ≤ width_of g) × (512 ≤ len) × ((a : Place) → Ready k m g q len a → ⊥)
 Unready k m g q len Whole = ⊥
-Unready k m g q len (Lost a r i d b) = ⊥
-Unready k m g q len (Failed a r i f) = ⊥
+Unready k m g q len (Lost x r i a) = ⊥
+Unready k m g q len (Failed x r i f) = ⊥
 
 abbrev pub Admits : {X : Type 0} → Ghosts X → List Drive → Group → ℕ → ℕ → Result Place GroupFault → Type 0
 Admits k m g q len (Ok a) = Ready k m g q len a
@@ -54,7 +54,7 @@ Blamable g (LostAt i r) = (i < width_of g) × (r < g.geometry.rows)
 Blamable g (FailedAt f i r) = Unit {0}
 
 abbrev pub raised : Group → RowFault → GroupFault
-raised g (LostAt i r) = Lost g.number r i (member g.members i).drive ((member g.members i).start + r)
+raised g (LostAt i r) = Lost g.number r i (address (member g.members i).drive ((member g.members i).start + r))
 raised g (FailedAt f i r) = Failed g.number r i f
 
 -- a fault names this group, the row r and a member that is missing in it, with its drive and its block of the row
@@ -95,7 +95,7 @@ Reads k m n g q was is (Err OutOfRule) = Unready k m g q (length was) OutOfRule 
 Reads k m n g q was is (Err Short) = Unready k m g q (length was) Short × (n ≡ m) × (is ≡ was)
 Reads k m n g q was is (Err Outside) = Unready k m g q (length was) Outside × (n ≡ m) × (is ≡ was)
 Reads k m n g q was is (Err Whole) = ⊥
-Reads k m n g q was is (Err (Lost x r i d b)) = (a : Place) × ReadLost k m n g q was is x r i d b a
+Reads k m n g q was is (Err (Lost x r i b)) = (a : Place) × ReadLost k m n g q was is x r i b.drive b.block a
 Reads k m n g q was is (Err (Failed x r i f)) = ⊥
 
 -- An accepted write: the row was not lost when it began, the block is not lost at the end, and whatever the row held, it
@@ -122,7 +122,7 @@ Writes k m n g q bytes (Err OutOfRule) = Unready k m g q (length bytes) OutOfRul
 Writes k m n g q bytes (Err Short) = Unready k m g q (length bytes) Short × (n ≡ m)
 Writes k m n g q bytes (Err Outside) = Unready k m g q (length bytes) Outside × (n ≡ m)
 Writes k m n g q bytes (Err Whole) = ⊥
-Writes k m n g q bytes (Err (Lost x r i d b)) = (a : Place) × WriteLost k m n g q bytes x r i d b a
+Writes k m n g q bytes (Err (Lost x r i b)) = (a : Place) × WriteLost k m n g q bytes x r i b.drive b.block a
 Writes k m n g q bytes (Err (Failed x r i f)) = ⊥
 
 -- the row at the member i's mark, which is the next to be rebuilt
@@ -131,19 +131,19 @@ next_row g i = (member g.members i).mark
 
 -- a rebuild of the next row of the member i that comes to its drives
 pub record Rebuildable {X : Type 0} (k : Ghosts X) (m : List Drive) (g : Group) (i : ℕ) : Type 0 where
-  pub enough : k.least ≤ width_of g
+  pub enough : k.LEAST ≤ width_of g
   pub inside : i < width_of g
   pub below : next_row g i < g.geometry.rows
   pub lies : Lies m g (next_row g i)
 
 -- which check before it failed
 abbrev pub Unrebuildable : {X : Type 0} → Ghosts X → List Drive → Group → ℕ → GroupFault → Type 0
-Unrebuildable k m g i OutOfRule = width_of g < k.least
+Unrebuildable k m g i OutOfRule = width_of g < k.LEAST
 Unrebuildable k m g i Short = ⊥
-Unrebuildable k m g i Outside = (k.least ≤ width_of g) × (Rebuildable k m g i → ⊥) × (i < width_of g → next_row g i < g.geometry.rows)
-Unrebuildable k m g i Whole = (k.least ≤ width_of g) × (i < width_of g) × (g.geometry.rows ≤ next_row g i)
-Unrebuildable k m g i (Lost a r j d b) = ⊥
-Unrebuildable k m g i (Failed a r j f) = ⊥
+Unrebuildable k m g i Outside = (k.LEAST ≤ width_of g) × (Rebuildable k m g i → ⊥) × (i < width_of g → next_row g i < g.geometry.rows)
+Unrebuildable k m g i Whole = (k.LEAST ≤ width_of g) × (i < width_of g) × (g.geometry.rows ≤ next_row g i)
+Unrebuildable k m g i (Lost x r j a) = ⊥
+Unrebuildable k m g i (Failed x r j f) = ⊥
 
 abbrev pub Prepares : {X : Type 0} → Ghosts X → List Drive → Group → ℕ → Result ℕ GroupFault → Type 0
 Prepares k m g i (Ok r) = Rebuildable k m g i × (r ≡ next_row g i)
@@ -177,7 +177,7 @@ pub record RebuildFailed {X : Type 0} (k : Ghosts X) (m n : List Drive) (g : Gro
   pub group : number ≡ g.number
   pub row : r ≡ next_row g i
   pub member_is : j ≡ i
-  pub fault : f ≡ Broken (member (members_of g) i).drive ((member (members_of g) i).start + next_row g i)
+  pub fault : f ≡ broken_at (member (members_of g) i).drive ((member (members_of g) i).start + next_row g i)
 
 abbrev pub Rebuilds : {X U : Type 0} → Ghosts X → List Drive → List Drive → Group → ℕ → Result U GroupFault → Type 0
 Rebuilds k m n g i (Ok u) = RebuildOk k m n g i
@@ -185,5 +185,5 @@ Rebuilds k m n g i (Err OutOfRule) = Unrebuildable k m g i OutOfRule × (n ≡ m
 Rebuilds k m n g i (Err Short) = ⊥
 Rebuilds k m n g i (Err Outside) = Unrebuildable k m g i Outside × (n ≡ m)
 Rebuilds k m n g i (Err Whole) = Unrebuildable k m g i Whole × (n ≡ m)
-Rebuilds k m n g i (Err (Lost x r j d b)) = RebuildLost k m n g i x r j d b
+Rebuilds k m n g i (Err (Lost x r j b)) = RebuildLost k m n g i x r j b.drive b.block
 Rebuilds k m n g i (Err (Failed x r j f)) = RebuildFailed k m n g i x r j f

@@ -1,7 +1,7 @@
 -- What a read, a write and a rebuild of one block of a row answer, and what they leave: m is the meaning of the bus
 -- before, and n after. The cases of an answer exclude one another.
 use Rattle.std.specs.Prelude.{◌≡◌, ℕ, ◌+◌, ◌<◌, ◌≤◌, Bool, true, false, ◌⊎◌, List, [], length, Ok, Err, Result, slice_index_or, slice_set}
-use Rattle.bus.specs.declared.fault.BusFault.TheVariants.{Broken}
+use Rattle.bus.specs.Numbers.{broken_at}
 use Rattle.bus.specs.Drives.{Drive, at}
 use Rattle.layout.specs.Blocks.{missing_count, Blocks}
 use Rattle.layout.specs.declared.method.Method.{Ghosts}
@@ -68,7 +68,7 @@ Rebuilds k t m n r gs i (Ok u) =
     ((us : List (List ℕ)) → Blocks (k.width (length gs)) us → RowHolds k t m r gs us → held n r (member gs i) ≡ slice_index_or (k.row (length gs) t us) i [])
 Rebuilds k t m n r gs i (Err (Lost j q)) = Blames n r gs j q × RowLost (k.tolerance (length gs)) n r gs
 Rebuilds k t m n r gs i (Err (Failed f j q)) =
-    (f ≡ Broken (member gs i).drive ((member gs i).start + r)) × (j ≡ i) × (q ≡ r) × (RowLost (k.tolerance (length gs)) n r gs → ⊥) × ((at n (member gs i).drive).broken ≡ true)
+    (f ≡ broken_at (member gs i).drive ((member gs i).start + r)) × (j ≡ i) × (q ≡ r) × (RowLost (k.tolerance (length gs)) n r gs → ⊥) × ((at n (member gs i).drive).broken ≡ true)
 
 -- all that is told of a read of user block p of the row r
 pub record RowRead {X : Type 0} (k : Ghosts X) (m n : List Drive) (t r p : ℕ) (x : Result (List ℕ) RowFault) (gs : List Member) : Type 0 where

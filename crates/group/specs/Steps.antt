@@ -1,7 +1,7 @@
 -- What one request at a member does: m is the meaning of the bus before, and n after.
 use Rattle.std.specs.Prelude.{◌≡◌, ℕ, ◌+◌, true, false, List, Ok, Err, Result, Option, MatchOption}
 use Rattle.bus.specs.Drives.{Drive, at}
-use Rattle.bus.specs.declared.fault.BusFault.TheVariants.{Broken}
+use Rattle.bus.specs.Numbers.{broken_at}
 use Rattle.group.specs.declared.member.Member.{Member}
 use Rattle.group.specs.declared.fault.RowFault.{RowFault}
 use Rattle.group.specs.declared.fault.RowFault.TheVariants.{Lost, Failed}
@@ -20,5 +20,5 @@ pub record Sent (m n : List Drive) (r : ℕ) (g : Member) (xs : List ℕ) : Type
 -- the member i, which is g, was written though it may be missing
 abbrev pub Stores : {U : Type 0} → List Drive → List Drive → ℕ → Member → ℕ → List ℕ → Result U RowFault → Type 0
 Stores m n r g i xs (Ok u) = Frame m n (Its g) (ItsBlock r g) × (held n r g ≡ xs) × ((at n g.drive).broken ≡ false)
-Stores m n r g i xs (Err (Failed f j q)) = Frame m n (Its g) (ItsBlock r g) × (f ≡ Broken g.drive (g.start + r)) × (j ≡ i) × (q ≡ r) × ((at n g.drive).broken ≡ true)
+Stores m n r g i xs (Err (Failed f j q)) = Frame m n (Its g) (ItsBlock r g) × (f ≡ broken_at g.drive (g.start + r)) × (j ≡ i) × (q ≡ r) × ((at n g.drive).broken ≡ true)
 Stores m n r g i xs (Err (Lost j q)) = ⊥

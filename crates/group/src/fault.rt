@@ -3,10 +3,10 @@ ghost use Rattle.group.specs.declared.fault.RowFault.{RowFault as TheFault};
 ghost use Rattle.group.specs.Seen.{seen};
 ghost use Rattle.group.specs.Faults.{group_number};
 
-use bus::BusFault;
+use bus::{BlockAddress, BusFault};
 
 /// Why a request at a row was refused, with the member that is to blame.
-#[derive(Clone, Copy)]
+#[derive(Clone, Copy, PartialEq, Eq, Debug)]
 pub enum RowFault {
     /// The row is lost, and this member is missing: more are than the method tolerates.
     Lost {
@@ -41,7 +41,7 @@ impl<T: Drop> AtRow<T> for Result<T, BusFault> {
 }
 
 /// Why a call on a group was refused.
-#[derive(Clone, Copy)]
+#[derive(Clone, Copy, PartialEq, Eq, Debug)]
 pub enum GroupFault {
     /// The method has no group of so few members.
     OutOfRule,
@@ -56,8 +56,7 @@ pub enum GroupFault {
         group: usize,
         row: usize,
         member: usize,
-        drive: usize,
-        block: usize,
+        at: BlockAddress,
     },
     /// The drive of this member failed.
     Failed {
@@ -82,8 +81,7 @@ impl GroupFault {
                 group: _,
                 row: _,
                 member: _,
-                drive: _,
-                block: _,
+                at: _,
             } => 11,
             GroupFault::Failed {
                 group: _,

@@ -4,7 +4,7 @@ ghost use Rattle.layout.specs.Extents.{Sound};
 ghost use Rattle.group.specs.Filling.{extent, FillsOne, Fills};
 
 use crate::fault::GroupFault;
-use bus::{Bus, BusFault};
+use bus::{BlockAddress, Bus, BusFault};
 use layout::extent::{Extent, ExtentRow};
 
 // Whether every row is that of an extent.
@@ -28,7 +28,11 @@ fn fill_extent<B: Bus>(bus: &mut B, e: ExtentRow) -> Result<(), Stop>
 {
     let zeros = [0u8; 512];
     for row in 0..e.count {
-        bus.write(e.drive, e.start + row, &zeros)
+        let at = BlockAddress {
+            drive: e.drive,
+            block: e.start + row,
+        };
+        bus.write(at, &zeros)
             .map_err(|fault| Stop { row, fault })?;
     }
     Ok(())

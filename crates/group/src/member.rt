@@ -1,8 +1,9 @@
-ghost use Rattle.std.specs.Prelude.{◌≡◌, ◌+◌, ◌<◌, ◌≤◌, MatchBool};
+ghost use Rattle.std.specs.Prelude.{◌≡◌, ◌+◌, ◌^◌, ◌<◌, ◌≤◌, MatchBool};
 ghost use Rattle.bus.specs.Drives.{size};
+ghost use Rattle.bus.specs.Numbers.{address};
 ghost use Rattle.group.specs.Group.{missing};
 
-use bus::Bus;
+use bus::{BlockAddress, Bus};
 
 // Where a member's extent lies, and up to which row it is whole.
 #[derive(Clone, Copy, PartialEq, Eq, Debug)]
@@ -13,6 +14,17 @@ pub struct Member {
 }
 
 impl Member {
+    // The member's block of a row.
+    pub(crate) fn at(self, row: usize) -> BlockAddress
+        requires { self.start + row < 2 ^ 64 }
+        ensures { result ≡ address self.drive (self.start + row) }
+    {
+        BlockAddress {
+            drive: self.drive,
+            block: self.start + row,
+        }
+    }
+
     /// Whether the member is missing in a row.
     pub fn missing_in<B: Bus>(self, bus: &B, row: usize) -> bool
         ensures { result ≡ missing (B.Bus.drives bus.now) row self }

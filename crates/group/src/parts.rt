@@ -15,7 +15,7 @@ pub(crate) struct Parts<M: Method> {
     pub(crate) blocks: [Block; 8],
     pub(crate) unread: [bool; 8],
     method: PhantomData<M>,
-    ghost enough: { M.Method.least ≤ count },
+    ghost enough: { M.Method.LEAST ≤ count },
     ghost few: { count ≤ 8 },
     ghost eight_blocks: { length blocks ≡ 8 },
     ghost eight_marks: { length unread ≡ 8 },
@@ -23,7 +23,7 @@ pub(crate) struct Parts<M: Method> {
 
 // The member that holds user block `p` of a row in strip `t`.
 pub(crate) fn place<M: Method>(n: usize, t: usize, p: usize) -> usize
-    requires { (M.Method.least ≤ n) × ((n ≤ 8) × (p < M.Method.width n)) }
+    requires { (M.Method.LEAST ≤ n) × ((n ≤ 8) × (p < M.Method.width n)) }
     ensures { result ≡ M.Method.home n t p }
 {
     M::home_of(n, t, p)
@@ -32,7 +32,7 @@ pub(crate) fn place<M: Method>(n: usize, t: usize, p: usize) -> usize
 impl<M: Method> Parts<M> {
     // Nothing was read.
     pub(crate) fn new(count: usize, strip: usize) -> Parts<M>
-        requires enough { M.Method.least ≤ count }
+        requires enough { M.Method.LEAST ≤ count }
         requires few { count ≤ 8 }
         ensures count { result.count ≡ count }
         ensures strip { result.strip ≡ strip }

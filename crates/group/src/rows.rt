@@ -20,13 +20,13 @@ pub(crate) struct Row<'a, M: Method> {
     pub(crate) strip: usize,
     pub(crate) row: usize,
     method: PhantomData<M>,
-    ghost enough: { M.Method.least ≤ length members.now },
+    ghost enough: { M.Method.LEAST ≤ length members.now },
     ghost few: { length members.now ≤ 8 },
 }
 
 impl<'a, M: Method> Row<'a, M> {
     pub(crate) fn new(members: &'a [Member], strip: usize, row: usize) -> Row<'a, M>
-        requires enough { M.Method.least ≤ length members.now }
+        requires enough { M.Method.LEAST ≤ length members.now }
         requires few { length members.now ≤ 8 }
         ensures members { result.members.now ≡ members.now }
         ensures strip { result.strip ≡ strip }

@@ -18,7 +18,7 @@ impl Member {
             return None;
         }
         let mut block = [0; 512];
-        bus.read(self.drive, self.start + row, &mut block).ok()?;
+        bus.read(self.at(row), &mut block).ok()?;
         Some(block)
     }
 
@@ -28,7 +28,7 @@ impl Member {
         ensures { Sent (B.Bus.drives bus.old) (B.Bus.drives bus.new) row self bytes.now }
     {
         if !self.missing_in(bus, row) {
-            let _ = bus.write(self.drive, self.start + row, bytes);
+            let _ = bus.write(self.at(row), bytes);
         }
     }
 
@@ -43,7 +43,7 @@ impl Member {
         requires { self.start + row < size (B.Bus.drives bus.old) self.drive }
         ensures { Stores (B.Bus.drives bus.old) (B.Bus.drives bus.new) row self i bytes.now result }
     {
-        bus.write(self.drive, self.start + row, bytes)
+        bus.write(self.at(row), bytes)
             .at_row(i, row)
     }
 }

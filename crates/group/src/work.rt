@@ -32,7 +32,7 @@ impl Group {
     fn admit<B: Bus, M: Method>(&self, bus: &B, q: usize, len: usize) -> Result<Place, GroupFault>
         ensures { Admits M.Method (B.Bus.drives bus.now) self.now q len result }
     {
-        if self.geometry.members() < M::least_members() {
+        if self.geometry.members() < M::LEAST {
             return Err(GroupFault::OutOfRule);
         }
         if len < BLOCK {
@@ -50,7 +50,7 @@ impl Group {
 
     // A row of the group, and the strip that it is of.
     fn row<M: Method>(&self, strip: usize, row: usize) -> Row<'_, M>
-        requires { M.Method.least ≤ width_of self.now }
+        requires { M.Method.LEAST ≤ width_of self.now }
         ensures members { result.members.now ≡ members_of self.now }
         ensures strip { result.strip ≡ strip }
         ensures row { result.row ≡ row }
@@ -68,8 +68,7 @@ impl Group {
                 group: self.number,
                 row,
                 member,
-                drive: self.members[member].drive,
-                block: self.members[member].start + row,
+                at: self.members[member].at(row),
             },
             RowFault::Failed { fault, member, row } => GroupFault::Failed {
                 group: self.number,
@@ -118,7 +117,7 @@ impl Group {
     fn prepare<B: Bus, M: Method>(&self, bus: &B, i: usize) -> Result<usize, GroupFault>
         ensures { Prepares M.Method (B.Bus.drives bus.now) self.now i result }
     {
-        if self.geometry.members() < M::least_members() {
+        if self.geometry.members() < M::LEAST {
             return Err(GroupFault::OutOfRule);
         }
         if i >= self.geometry.members() {

@@ -1,16 +1,17 @@
-use Rattle.std.proofs.Common.{◌≡◌, ℕ, ◌<◌, ◌≤◌, Bool, true, false, List, ◌++◌, length, set, take, drop, sym, ap, ◌∙◌, subst, arith}
+use Rattle.std.proofs.Common.{◌≡◌, ℕ, ◌<◌, ◌≤◌, Bool, Ok, Err, Result, List, ◌++◌, length, set, take, drop, sym, ap, ◌∙◌, subst, arith}
 use Rattle.std.proofs.lemmas.List.{length-take-le}
 use Rattle.std.proofs.Math.Seq.{take-append_seam}
 use Rattle.layout.specs.Blocks.{missing_count, Blocks, Agree}
 use Rattle.layout.specs.declared.method.Method.{Ghosts}
+use Rattle.layout.specs.declared.row.RowError.{RowError}
 use Rattle.layout.specs.Rows.{Recoverable, ReplacesUser}
 use Rattle.group.proofs.parts.Parts.replace.Goals as goal
 
 -- a row that can be recovered is replaced
-replaced : {X : Type 0} (k : Ghosts X) (t : ℕ) (o : List Bool) (p : ℕ) (new : List ℕ) (was is : List (List ℕ)) (b : Bool) → ReplacesUser k t o p new was is b → Recoverable k o was → p < k.width (length was) →
+replaced : {X : Type 0} (k : Ghosts X) (t : ℕ) (o : List Bool) (p : ℕ) (new : List ℕ) (was is : List (List ℕ)) (b : Result (Unit {0}) RowError) → ReplacesUser k t o p new was is b → Recoverable k o was → p < k.width (length was) →
     (us : List (List ℕ)) → Blocks (k.width (length was)) us → Agree o was (k.row (length was) t us) → is ≡ k.row (length was) t (set us p new)
-replaced k t o p new was is true h r l us u a = h.2 us u a
-replaced k t o p new was is false h r l us u a = absurd (h.0 (r, l))
+replaced k t o p new was is (Ok v) h r l us u a = h.2 us u a
+replaced k t o p new was is (Err e) h r l us u a = absurd (h.0 (r, l))
 
 pub returns-clause-row : goal.returns-clause-row
 returns-clause-row g c = λ us u a.
