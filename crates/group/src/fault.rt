@@ -33,10 +33,7 @@ impl<T: Drop> AtRow<T> for Result<T, BusFault> {
     ghost at = { λ s i r. seen i r s };
 
     fn at_row(self, member: usize, row: usize) -> Result<T, RowFault> {
-        match self {
-            Ok(v) => Ok(v),
-            Err(fault) => Err(RowFault::Failed { fault, member, row }),
-        }
+        self.map_err(|fault| RowFault::Failed { fault, member, row })
     }
 }
 
@@ -77,18 +74,8 @@ impl GroupFault {
             GroupFault::Short => 6,
             GroupFault::Outside => 7,
             GroupFault::Whole => 8,
-            GroupFault::Lost {
-                group: _,
-                row: _,
-                member: _,
-                at: _,
-            } => 11,
-            GroupFault::Failed {
-                group: _,
-                row: _,
-                member: _,
-                fault,
-            } => fault.number(),
+            GroupFault::Lost { .. } => 11,
+            GroupFault::Failed { fault, .. } => fault.number(),
         }
     }
 }

@@ -4,7 +4,7 @@ ghost use Rattle.layout.specs.Extents.{Sound};
 ghost use Rattle.group.specs.Filling.{extent, FillsOne, Fills};
 
 use crate::fault::GroupFault;
-use bus::{BlockAddress, Bus, BusFault};
+use bus::{BLOCK, BlockAddress, Bus, BusFault};
 use layout::extent::{Extent, ExtentRow};
 
 // Whether every row is that of an extent.
@@ -15,7 +15,7 @@ fn sound_rows(extents: &[ExtentRow]) -> bool
 }
 
 // The row of an extent that its drive refused.
-#[derive(Clone, Copy)]
+#[derive(Clone, Copy, PartialEq, Eq, Debug)]
 struct Stop {
     row: usize,
     fault: BusFault,
@@ -26,7 +26,7 @@ fn fill_extent<B: Bus>(bus: &mut B, e: ExtentRow) -> Result<(), Stop>
     requires { Sound e }
     ensures { FillsOne (B.Bus.drives bus.old) (B.Bus.drives bus.new) e result }
 {
-    let zeros = [0u8; 512];
+    let zeros = [0u8; BLOCK];
     for row in 0..e.count {
         let at = BlockAddress {
             drive: e.drive,

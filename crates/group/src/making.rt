@@ -7,7 +7,7 @@ ghost use Rattle.group.specs.Making.{Fits, MadeTo, Movable, Unmovable};
 use crate::member::Member;
 use crate::record::Group;
 use layout::extent::{Extent, ExtentRow, MOST_BLOCKS};
-use layout::geometry::Geometry;
+use layout::geometry::{Geometry, MOST_MEMBERS};
 
 // Whether one of the rows is on drive `d`.
 fn drive_taken(extents: &[ExtentRow], d: usize) -> bool
@@ -29,7 +29,7 @@ impl Group {
             drive: 0,
             start: 0,
             mark: 0,
-        }; 8];
+        }; MOST_MEMBERS];
         for (i, row) in extents.iter().enumerate() {
             Extent::new(*row)?;
             if row.count != geometry.rows() || drive_taken(&extents[0..i], row.drive) {

@@ -3,6 +3,7 @@ ghost use Rattle.std.specs.Prelude.{◌≡◌, ℕ, ◌<◌, ◌≤◌, true, fa
 ghost use Rattle.layout.specs.Blocks.{missing_count, Blocks, Agree};
 
 use layout::block::{Block, count_missing};
+use layout::geometry::MOST_MEMBERS;
 use layout::method::Method;
 use layout::row::replace_user;
 use std::marker::PhantomData;
@@ -12,8 +13,8 @@ use std::marker::PhantomData;
 pub(crate) struct Parts<M: Method> {
     pub(crate) count: usize,
     pub(crate) strip: usize,
-    pub(crate) blocks: [Block; 8],
-    pub(crate) unread: [bool; 8],
+    pub(crate) blocks: [Block; MOST_MEMBERS],
+    pub(crate) unread: [bool; MOST_MEMBERS],
     method: PhantomData<M>,
     ghost enough: { M.Method.LEAST ≤ count },
     ghost few: { count ≤ 8 },
@@ -41,8 +42,8 @@ impl<M: Method> Parts<M> {
         Parts {
             count,
             strip,
-            blocks: [[0; 512]; 8],
-            unread: [true; 8],
+            blocks: [[0; 512]; MOST_MEMBERS],
+            unread: [true; MOST_MEMBERS],
             method: PhantomData,
         }
     }

@@ -3,14 +3,14 @@ ghost use Rattle.std.specs.Prelude.{◌≡◌, ℕ, ◌+◌, ◌<◌, ◌≤◌,
 ghost use Rattle.group.specs.Group.{member};
 
 use crate::member::Member;
-use layout::geometry::Geometry;
+use layout::geometry::{Geometry, MOST_MEMBERS};
 
 /// A group of up to 8 members, on different drives. What holds of it whatever the bus stands in its type.
-#[derive(Clone, Copy)]
+#[derive(Clone, Copy, PartialEq, Eq, Debug)]
 pub struct Group {
     pub(crate) number: usize,
     pub(crate) geometry: Geometry,
-    pub(crate) members: [Member; 8],
+    pub(crate) members: [Member; MOST_MEMBERS],
     ghost eight: { length members ≡ 8 },
     ghost apart: { (i j : ℕ) → (i < j) × (j < geometry.members) → (member members i).drive ≢ (member members j).drive },
     ghost ends: { (i : ℕ) → i < geometry.members → (member members i).start + geometry.rows ≤ 65536 },
