@@ -11,7 +11,7 @@ use Rattle.group.specs.declared.fault.RowFault.TheVariants.{Lost, Failed}
 use Rattle.group.specs.Group.{member, missing, RowLost, RowHolds, Shape, Frame, Its, ItsBlock}
 use Rattle.group.specs.Steps.{Stores}
 use Rattle.group.specs.Sweeps.{Gathered}
-use Rattle.group.specs.Requests.{Settled, Suffices, Decided, Changes, Rebuilds}
+use Rattle.group.specs.Requests.{Settled, Decided, Changes, Rebuilds}
 use Rattle.group.proofs.Holding.{holds_lost, fine_behind, lost_since}
 
 pub settled_as : {U : Type 0} (st sx : ℕ) (n : List Drive) (r : ℕ) (gs : List Member) (i j : ℕ) (x : Result U RowFault) → st ≡ sx → i ≡ j → Settled st n r gs i x → Settled sx n r gs j x
@@ -45,14 +45,3 @@ module _ {X : Type 0} (k : Ghosts X) (t r : ℕ) (gs : List Member) (i : ℕ) (m
   rebuilds_by b (Err (Failed f j q)) inside behind shape fine made h =
       (h.1, h.2, h.3, fine_behind k t r gs a n i inside behind shape h.0 (k.tolerance (length gs)) fine, h.4)
   rebuilds_by b (Err (Lost j q)) inside behind shape fine made h = absurd h
-
-  pub rebuild_lost : i < length gs → (member gs i).mark ≤ r → (U : Type 0) (st : ℕ) (o : List Bool) (bs : List (List ℕ)) (e : RowFault) → st ≡ k.tolerance (length gs) → Gathered st m a r gs o bs → Suffices {U = U} st o r i (Err e) → Rebuilds {U = U} k t m a r gs i (Err e)
-  rebuild_lost inside behind U st o bs (Lost j q) is g h = (
-    record {
-      row = h.1;
-      inside = omega (arith, h.0);
-      gone = ap (λ e. missing a r (member gs e)) h.0 ∙ or_right (at a (member gs i).drive).broken (leb (member gs i).mark r) (le-leb _ _ behind);
-    },
-    let l = lost_since st m a r gs o bs g h.2 in omega arith,
-  )
-  rebuild_lost inside behind U st o bs (Failed f j q) is g h = absurd h

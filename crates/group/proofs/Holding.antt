@@ -48,19 +48,27 @@ module _ {X : Type 0} (k : Ghosts X) (t r : ℕ) (gs : List Member) where
   }
 
   -- enough of it was read
-  pub agrees : (m n : List Drive) (us : List (List ℕ)) (o : List Bool) (bs : List (List ℕ)) → Gathered (k.tolerance (length gs)) m n r gs o bs → missing_count o ≤ k.tolerance (length gs) → length bs ≡ length gs →
+  agrees : (m n : List Drive) (us : List (List ℕ)) (o : List Bool) (bs : List (List ℕ)) → Gathered (k.tolerance (length gs)) m n r gs o bs → missing_count o ≤ k.tolerance (length gs) → length bs ≡ length gs →
       RowHolds k t m r gs us → Agree o bs (k.row (length gs) t us)
   agrees m n us o bs a few e h = λ i l z.
       let u = a.known i (omega arith) z in
       u.1 ∙ h.whole (fine_before m n r gs (Ours gs) NoBlock a.frame (k.tolerance (length gs)) (fine_since _ m n r gs o bs a few)) i (omega arith) (back m n r gs (Ours gs) NoBlock a.frame i u.0)
 
   -- what is told of the parts of a row, at the number of its members and its strip
-  pub at_row : (Q : ℕ → ℕ → List (List ℕ) → Type 0) (o : List Bool) (bs : List (List ℕ)) (l z : ℕ) → l ≡ length gs → z ≡ t →
+  at_row : (Q : ℕ → ℕ → List (List ℕ) → Type 0) (o : List Bool) (bs : List (List ℕ)) (l z : ℕ) → l ≡ length gs → z ≡ t →
       ((us : List (List ℕ)) → Blocks (k.width l) us → Agree o bs (k.row l z us) → Q l z us) →
       (us : List (List ℕ)) → Blocks (k.width (length gs)) us → Agree o bs (k.row (length gs) t us) → Q (length gs) t us
   at_row Q o bs l z el ez told =
       subst (λ (x : ℕ). (us : List (List ℕ)) → Blocks (k.width (length gs)) us → Agree o bs (k.row (length gs) x us) → Q (length gs) x us) ez
       (subst (λ (j : ℕ). (us : List (List ℕ)) → Blocks (k.width j) us → Agree o bs (k.row j z us) → Q j z us) el told)
+
+  -- the same of whatever the row held when its members were read, where enough were
+  pub known_row : (Q : ℕ → ℕ → List (List ℕ) → Type 0) (o : List Bool) (bs : List (List ℕ)) (l z : ℕ) → l ≡ length gs → z ≡ t →
+      (m n : List Drive) → Gathered (k.tolerance (length gs)) m n r gs o bs → missing_count o ≤ k.tolerance l → length bs ≡ l →
+      ((us : List (List ℕ)) → Blocks (k.width l) us → Agree o bs (k.row l z us) → Q l z us) →
+      (us : List (List ℕ)) → Blocks (k.width (length gs)) us → RowHolds k t m r gs us → Q (length gs) t us
+  known_row Q o bs l z el ez m n got few long told us u h =
+      at_row Q o bs l z el ez told us u (agrees m n us o bs got (subst (λ (j : ℕ). missing_count o ≤ k.tolerance j) el few) (long ∙ el) h)
 
   module _ (s : Sound k.LEAST k.width k.cycle k.home k.check k.row k.tolerance) (few : k.LEAST ≤ length gs) (many : length gs ≤ 8)
       (p : ℕ) (here : p < k.width (length gs)) (us : List (List ℕ)) (u : Blocks (k.width (length gs)) us) (new : List ℕ) where

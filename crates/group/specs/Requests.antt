@@ -36,12 +36,6 @@ Settled tolerance n r gs i (Err (Failed f j q)) = ⊥
 abbrev pub HomeFirst : List Drive → List Drive → ℕ → List Member → ℕ → Type 0
 HomeFirst m n r gs i = missing n r (member gs i) ≡ false → Frame m n (Its (member gs i)) NoBlock
 
--- no more than `tolerance` are marked
-abbrev pub Suffices : {U : Type 0} → ℕ → List Bool → ℕ → ℕ → Result U RowFault → Type 0
-Suffices tolerance o r i (Ok u) = missing_count o ≤ tolerance
-Suffices tolerance o r i (Err (Lost j q)) = (j ≡ i) × (q ≡ r) × (tolerance < missing_count o)
-Suffices tolerance o r i (Err (Failed f j q)) = ⊥
-
 -- an accepted read gives user block p, of whatever user blocks the row held
 abbrev pub Gives : {X : Type 0} → Ghosts X → ℕ → List Drive → ℕ → List Member → ℕ → Result (List ℕ) RowFault → Type 0
 Gives k t m r gs p (Ok b) = (us : List (List ℕ)) → Blocks (k.width (length gs)) us → RowHolds k t m r gs us → b ≡ slice_index_or us p []

@@ -32,8 +32,7 @@ fn fill_extent<B: Bus>(bus: &mut B, e: ExtentRow) -> Result<(), Stop>
             drive: e.drive,
             block: e.start + row,
         };
-        bus.write(at, &zeros)
-            .map_err(|fault| Stop { row, fault })?;
+        bus.write(at, &zeros).map_err(|fault| Stop { row, fault })?;
     }
     Ok(())
 }

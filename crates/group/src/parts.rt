@@ -1,5 +1,5 @@
 // What is in memory of a row.
-ghost use Rattle.std.specs.Prelude.{◌≡◌, ℕ, ◌<◌, ◌≤◌, true, false, List, [], length, take, slice_index_or, slice_set};
+ghost use Rattle.std.specs.Prelude.{◌≡◌, ℕ, ◌<◌, ◌≤◌, true, false, MatchOption, List, [], length, take, slice_index_or, slice_set};
 ghost use Rattle.layout.specs.Blocks.{missing_count, Blocks, Agree};
 
 use layout::block::{Block, count_missing};
@@ -67,40 +67,57 @@ impl<M: Method> Parts<M> {
         self.unread[i] = false;
     }
 
-    // The block of member `m`, from those of the members that were read.
-    pub(crate) fn block(&self, m: usize) -> Block
-        requires read { missing_count (take self.now.count self.now.unread) ≤ M.Method.tolerance self.now.count }
-        requires inside { m < self.now.count }
-        ensures { (us : List (List ℕ)) → Blocks (M.Method.width self.now.count) us → Agree (take self.now.count self.now.unread) (take self.now.count self.now.blocks) (M.Method.row self.now.count self.now.strip us) → result ≡ slice_index_or (M.Method.row self.now.count self.now.strip us) m [] }
+    // The parts, if enough were read.
+    pub(crate) fn known(self) -> Option<Known<M>>
+        ensures { MatchOption result (M.Method.tolerance self.count < missing_count (take self.count self.unread)) (λ k. k.parts ≡ self) }
     {
-        let mut blocks = self.blocks;
+        if self.unread() > M::tolerance_of(self.count) {
+            return None;
+        }
+        Some(Known { parts: self })
+    }
+}
+
+// Parts of a row of which enough were read to know the others.
+#[derive(Drop)]
+pub(crate) struct Known<M: Method> {
+    parts: Parts<M>,
+    ghost enough: { missing_count (take parts.count parts.unread) ≤ M.Method.tolerance parts.count },
+}
+
+impl<M: Method> Known<M> {
+    // The block of member `m`.
+    pub(crate) fn block(&self, m: usize) -> Block
+        requires { m < self.now.parts.count }
+        ensures { (us : List (List ℕ)) → Blocks (M.Method.width self.now.parts.count) us → Agree (take self.now.parts.count self.now.parts.unread) (take self.now.parts.count self.now.parts.blocks) (M.Method.row self.now.parts.count self.now.parts.strip us) → result ≡ slice_index_or (M.Method.row self.now.parts.count self.now.parts.strip us) m [] }
+    {
+        let count = self.parts.count;
+        let mut blocks = self.parts.blocks;
         M::recover(
-            self.strip,
-            &mut blocks[..self.count],
-            &self.unread[..self.count],
+            self.parts.strip,
+            &mut blocks[..count],
+            &self.parts.unread[..count],
         );
         blocks[m]
     }
 
-    // User block `p`, likewise.
+    // User block `p`.
     pub(crate) fn user(&self, p: usize) -> Block
-        requires read { missing_count (take self.now.count self.now.unread) ≤ M.Method.tolerance self.now.count }
-        requires inside { p < M.Method.width self.now.count }
-        ensures { (us : List (List ℕ)) → Blocks (M.Method.width self.now.count) us → Agree (take self.now.count self.now.unread) (take self.now.count self.now.blocks) (M.Method.row self.now.count self.now.strip us) → result ≡ slice_index_or us p [] }
+        requires { p < M.Method.width self.now.parts.count }
+        ensures { (us : List (List ℕ)) → Blocks (M.Method.width self.now.parts.count) us → Agree (take self.now.parts.count self.now.parts.unread) (take self.now.parts.count self.now.parts.blocks) (M.Method.row self.now.parts.count self.now.parts.strip us) → result ≡ slice_index_or us p [] }
     {
-        self.block(place::<M>(self.count, self.strip, p))
+        self.block(place::<M>(self.parts.count, self.parts.strip, p))
     }
 
-    // All blocks of the row with another user block `p`, likewise.
-    pub(crate) fn replace(&mut self, p: usize, new: &Block)
-        requires read { missing_count (take self.old.count self.old.unread) ≤ M.Method.tolerance self.old.count }
-        requires inside { p < M.Method.width self.old.count }
-        ensures count { self.new.count ≡ self.old.count }
-        ensures row { (us : List (List ℕ)) → Blocks (M.Method.width self.old.count) us → Agree (take self.old.count self.old.unread) (take self.old.count self.old.blocks) (M.Method.row self.old.count self.old.strip us) → take self.old.count self.new.blocks ≡ M.Method.row self.old.count self.old.strip (slice_set us p new.now) }
+    // All blocks of the row with another user block `p`.
+    pub(crate) fn replaced(&self, p: usize, new: &Block) -> [Block; MOST_MEMBERS]
+        requires { p < M.Method.width self.now.parts.count }
+        ensures { (us : List (List ℕ)) → Blocks (M.Method.width self.now.parts.count) us → Agree (take self.now.parts.count self.now.parts.unread) (take self.now.parts.count self.now.parts.blocks) (M.Method.row self.now.parts.count self.now.parts.strip us) → take self.now.parts.count result ≡ M.Method.row self.now.parts.count self.now.parts.strip (slice_set us p new.now) }
     {
-        let mut blocks = self.blocks;
-        let unread = &self.unread[..self.count];
-        let _ = replace_user::<M>(self.strip, &mut blocks[..self.count], unread, p, new);
-        self.blocks = blocks;
+        let count = self.parts.count;
+        let mut blocks = self.parts.blocks;
+        let unread = &self.parts.unread[..count];
+        let _ = replace_user::<M>(self.parts.strip, &mut blocks[..count], unread, p, new);
+        blocks
     }
 }

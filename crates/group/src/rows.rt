@@ -1,13 +1,13 @@
 // Reading, writing and rebuilding one block of a row.
 ghost use Rattle.std.specs.Prelude.{◌≡◌, ℕ, ◌+◌, ◌<◌, ◌≤◌, List, length, take, slice_set};
-ghost use Rattle.layout.specs.Blocks.{missing_count, Blocks};
+ghost use Rattle.layout.specs.Blocks.{Blocks};
+ghost use Rattle.group.specs.declared.fault.RowFault.TheVariants.{Lost};
 ghost use Rattle.group.specs.Group.{member as memberOf, Shape, RowHolds, Frame, Ours, InRow, NoBlock, ItsBlock};
-ghost use Rattle.group.specs.Requests.{Keeps, Intact, Settled, HomeFirst, Suffices, Gives, Decided, Changes, Rebuilds};
+ghost use Rattle.group.specs.Requests.{Keeps, Intact, Settled, HomeFirst, Gives, Decided, Changes, Rebuilds};
 
 use crate::fault::RowFault;
 use crate::member::Member;
-use crate::parts::{Parts, place};
-use crate::sweeps::{count_missing_members, first_missing_member};
+use crate::parts::place;
 use bus::Bus;
 use layout::block::{Block, bytes_fit};
 use layout::method::Method;
@@ -55,29 +55,23 @@ impl<'a, M: Method> Row<'a, M> {
         place::<M>(self.members.len(), self.strip, p)
     }
 
-    // Refuses in the name of the member `i` where more members were not read than may be missing.
-    fn suffice(&self, parts: &Parts<M>, i: usize) -> Result<(), RowFault>
-        ensures { Suffices (M.Method.tolerance (length self.now.members.now)) (take parts.now.count parts.now.unread) self.now.row i result }
+    // That the row is lost, and the member `i` is missing in it.
+    fn lost(&self, i: usize) -> RowFault
+        ensures { result ≡ Lost i self.now.row }
     {
-        if parts.unread() > self.tolerance() {
-            return Err(RowFault::Lost {
-                member: i,
-                row: self.row,
-            });
+        RowFault::Lost {
+            member: i,
+            row: self.row,
         }
-        Ok(())
     }
 
     // Refuses where the row is lost.
     fn intact<B: Bus>(&self, bus: &B) -> Result<(), RowFault>
         ensures { Intact (M.Method.tolerance (length self.now.members.now)) (B.Bus.drives bus.now) self.now.row self.now.members.now result }
     {
-        let gone = count_missing_members(bus, self.members, self.row);
-        match first_missing_member(bus, self.members, self.row) {
-            Some(member) if gone > self.tolerance() => Err(RowFault::Lost {
-                member,
-                row: self.row,
-            }),
+        let gone = self.count_missing(bus);
+        match self.first_missing(bus) {
+            Some(i) if gone > self.tolerance() => Err(self.lost(i)),
             _ => Ok(()),
         }
     }
@@ -90,11 +84,8 @@ impl<'a, M: Method> Row<'a, M> {
         if !self.members[i].missing_in(bus, self.row) {
             return Ok(());
         }
-        if count_missing_members(bus, self.members, self.row) > self.tolerance() {
-            return Err(RowFault::Lost {
-                member: i,
-                row: self.row,
-            });
+        if self.count_missing(bus) > self.tolerance() {
+            return Err(self.lost(i));
         }
         Ok(())
     }
@@ -113,9 +104,10 @@ impl<'a, M: Method> Row<'a, M> {
         if let Some(block) = self.members[home].fetch(bus, self.row) {
             return Ok(block);
         }
-        let parts = self.gather(bus);
-        self.suffice(&parts, home)?;
-        Ok(parts.user(p))
+        let Some(known) = self.gather(bus) else {
+            return Err(self.lost(home));
+        };
+        Ok(known.user(p))
     }
 
     // Brings the home of the user block `p`, and the check blocks, to `new`, as far as members are not missing.
@@ -127,12 +119,9 @@ impl<'a, M: Method> Row<'a, M> {
     {
         let home = self.home(p);
         bytes_fit(new);
-        let mut parts = self.gather(bus);
-        if parts.unread() > self.tolerance() {
-            self.members[home].send(bus, self.row, new);
-        } else {
-            parts.replace(p, new);
-            self.spread(bus, home, &parts);
+        match self.gather(bus) {
+            Some(known) => self.spread(bus, home, &known.replaced(p, new)),
+            None => self.members[home].send(bus, self.row, new),
         }
     }
 
@@ -158,9 +147,10 @@ impl<'a, M: Method> Row<'a, M> {
         ensures keeps { Keeps M.Method self.now.strip (B.Bus.drives bus.old) (B.Bus.drives bus.new) self.now.row self.now.members.now }
         ensures rebuilds { Rebuilds M.Method self.now.strip (B.Bus.drives bus.old) (B.Bus.drives bus.new) self.now.row self.now.members.now i result }
     {
-        let parts = self.gather(bus);
-        self.suffice(&parts, i)?;
-        let block = parts.block(i);
+        let Some(known) = self.gather(bus) else {
+            return Err(self.lost(i));
+        };
+        let block = known.block(i);
         self.members[i].store(bus, i, self.row, &block)
     }
 }

@@ -43,7 +43,6 @@ impl Member {
         requires { self.start + row < size (B.Bus.drives bus.old) self.drive }
         ensures { Stores (B.Bus.drives bus.old) (B.Bus.drives bus.new) row self i bytes.now result }
     {
-        bus.write(self.at(row), bytes)
-            .at_row(i, row)
+        bus.write(self.at(row), bytes).at_row(i, row)
     }
 }

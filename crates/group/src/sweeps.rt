@@ -1,36 +1,41 @@
 // Going over the members of a row.
 ghost use Rattle.std.specs.Prelude.{◌≡◌, ℕ, ◌+◌, ◌<◌, ◌≤◌, true, length, take, MatchOption};
 ghost use Rattle.layout.specs.Blocks.{missing_count};
-ghost use Rattle.group.specs.Group.{member as memberOf, missing, missings, Shape};
+ghost use Rattle.group.specs.Group.{member as memberOf, missing, missings, RowLost, Shape, Frame, Ours, NoBlock};
 ghost use Rattle.group.specs.Sweeps.{Gathered, Spread, concerned};
 
-use crate::member::Member;
-use crate::parts::Parts;
+use crate::parts::{Known, Parts};
 use crate::rows::Row;
 use bus::Bus;
+use layout::block::Block;
+use layout::geometry::MOST_MEMBERS;
 use layout::method::Method;
 
-// How many members are missing in a row.
-pub(crate) fn count_missing_members<B: Bus>(bus: &B, members: &[Member], row: usize) -> usize
-    ensures { result ≡ missing_count (missings (B.Bus.drives bus.now) row members.now) }
-{
-    members.iter().filter(|g| g.missing_in(bus, row)).count()
-}
-
-// The first member that is missing in a row.
-pub(crate) fn first_missing_member<B: Bus>(bus: &B, members: &[Member], row: usize) -> Option<usize>
-    ensures { MatchOption result (missing_count (missings (B.Bus.drives bus.now) row members.now) ≡ 0) (λ i. (i < length members.now) × (missing (B.Bus.drives bus.now) row (memberOf members.now i) ≡ true)) }
-{
-    members.iter().position(|g| g.missing_in(bus, row))
-}
-
 impl<'a, M: Method> Row<'a, M> {
-    // Reads members that are not missing, until no more are left unread than may be missing.
-    pub(crate) fn gather<B: Bus>(&self, bus: &mut B) -> Parts<M>
+    // How many members are missing.
+    pub(crate) fn count_missing<B: Bus>(&self, bus: &B) -> usize
+        ensures { result ≡ missing_count (missings (B.Bus.drives bus.now) self.now.row self.now.members.now) }
+    {
+        let row = self.row;
+        self.members
+            .iter()
+            .filter(|g| g.missing_in(bus, row))
+            .count()
+    }
+
+    // The first member that is missing.
+    pub(crate) fn first_missing<B: Bus>(&self, bus: &B) -> Option<usize>
+        ensures { MatchOption result (missing_count (missings (B.Bus.drives bus.now) self.now.row self.now.members.now) ≡ 0) (λ i. (i < length self.now.members.now) × (missing (B.Bus.drives bus.now) self.now.row (memberOf self.now.members.now i) ≡ true)) }
+    {
+        let row = self.row;
+        self.members.iter().position(|g| g.missing_in(bus, row))
+    }
+
+    // Reads members that are not missing, until enough are there; none where the row is lost.
+    pub(crate) fn gather<B: Bus>(&self, bus: &mut B) -> Option<Known<M>>
         requires { Shape (B.Bus.drives bus.old) self.now.row self.now.members.now }
-        ensures count { result.count ≡ length self.now.members.now }
-        ensures strip { result.strip ≡ self.now.strip }
-        ensures gathered { Gathered (M.Method.tolerance (length self.now.members.now)) (B.Bus.drives bus.old) (B.Bus.drives bus.new) self.now.row self.now.members.now (take result.count result.unread) (take result.count result.blocks) }
+        ensures frame { Frame (B.Bus.drives bus.old) (B.Bus.drives bus.new) (Ours self.now.members.now) NoBlock }
+        ensures answer { MatchOption result (RowLost (M.Method.tolerance (length self.now.members.now)) (B.Bus.drives bus.new) self.now.row self.now.members.now) (λ k. (k.parts.count ≡ length self.now.members.now) × (k.parts.strip ≡ self.now.strip) × Gathered (M.Method.tolerance (length self.now.members.now)) (B.Bus.drives bus.old) (B.Bus.drives bus.new) self.now.row self.now.members.now (take k.parts.count k.parts.unread) (take k.parts.count k.parts.blocks)) }
     {
         let tolerance = self.tolerance();
         let mut parts = Parts::new(self.members.len(), self.strip);
@@ -41,7 +46,7 @@ impl<'a, M: Method> Row<'a, M> {
                 }
             }
         }
-        parts
+        parts.known()
     }
 
     // Whether a write of the user block at `home` concerns the member `i`.
@@ -52,14 +57,13 @@ impl<'a, M: Method> Row<'a, M> {
     }
 
     // Writes the blocks of the home and of the check members that are not missing.
-    pub(crate) fn spread<B: Bus>(&self, bus: &mut B, home: usize, parts: &Parts<M>)
-        requires shape { Shape (B.Bus.drives bus.old) self.now.row self.now.members.now }
-        requires count { parts.now.count ≡ length self.now.members.now }
-        ensures { Spread (concerned (M.Method.check (length self.now.members.now) self.now.strip) home) (B.Bus.drives bus.old) (B.Bus.drives bus.new) self.now.row self.now.members.now (take parts.now.count parts.now.blocks) }
+    pub(crate) fn spread<B: Bus>(&self, bus: &mut B, home: usize, blocks: &[Block; MOST_MEMBERS])
+        requires { Shape (B.Bus.drives bus.old) self.now.row self.now.members.now }
+        ensures { Spread (concerned (M.Method.check (length self.now.members.now) self.now.strip) home) (B.Bus.drives bus.old) (B.Bus.drives bus.new) self.now.row self.now.members.now (take (length self.now.members.now) blocks.now) }
     {
         for (i, member) in self.members.iter().enumerate() {
             if self.concerns(home, i) {
-                member.send(bus, self.row, &parts.blocks[i]);
+                member.send(bus, self.row, &blocks[i]);
             }
         }
     }

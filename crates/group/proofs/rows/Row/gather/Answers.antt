@@ -1,6 +1,8 @@
-use Rattle.std.proofs.Common.{◌≡◌, ◌<◌, length, take, ap, ◌∙◌, subst, arith}
+use Rattle.std.proofs.Common.{◌≡◌, ◌<◌, Option, None, Some, MatchOption, length, take, sym, ap, ◌∙◌, subst, arith}
 use Rattle.std.proofs.lemmas.List.{length-take-le}
 use Rattle.group.specs.Sweeps.{Gathered}
+use Rattle.layout.specs.Blocks.{missing_count}
+use Rattle.group.proofs.Holding.{lost_since}
 use Rattle.group.proofs.Gathering.{gathers_as, gathers_skip, gathers_read, gathers_miss, gathers_all}
 use Rattle.group.proofs.rows.Row.gather.Goals as goal
 use Rattle.group.proofs.rows.Row.gather.Goals.{then-unread-tolerance+in-Some, then-unread-tolerance+in_default, else-unread-tolerance}
@@ -46,12 +48,27 @@ loop-i-preserved g c =
           }
     ]
 
-pub returns-clause-gathered : goal.returns-clause-gathered
-returns-clause-gathered g c =
+-- what is told of each answer, told otherwise
+otherwise : {K : Type 0} (x : Option K) (N A : Type 0) (Y B : K → Type 0) → (N → A) → ((k : K) → Y k → B k) → MatchOption x N Y → MatchOption x A B
+otherwise None N A Y B none some h = none h
+otherwise (Some k) N A Y B none some h = some k h
+
+pub returns-clause-answer : goal.returns-clause-answer
+returns-clause-answer g c =
+    let tolerance = g.M.Method.tolerance in
+    let m = g.B.Bus.drives c.args.bus.now in
+    let n = g.B.Bus.drives c.loop-i.bus in
+    let row = c.args.self.now in
+    let gs = row.members.now in
     let ps = c.loop-i.parts in
     let o = take ps.count ps.unread in
     let bs = take ps.count ps.blocks in
+    let a = c.loop-i.invariant in
     let long : length o ≡ ps.count = length-take-le ps.count ps.unread (omega (arith, ps.few, ps.eight_marks)) in
-    subst (λ v. Gathered v (g.B.Bus.drives c.args.bus.now) (g.B.Bus.drives c.loop-i.bus) c.args.self.now.row c.args.self.now.members.now o bs) c.tolerance-tolerance.ensures
-    (gathers_all c.tolerance-tolerance.result (g.B.Bus.drives c.args.bus.now) c.args.self.now.row c.args.self.now.members.now c.loop-i.i (g.B.Bus.drives c.loop-i.bus) o bs
-    (omega (arith, c.loop-i-test.false)) (omega (arith, long, c.loop-i.invariant.count)) c.loop-i.invariant.gathers)
+    let got : Gathered (tolerance (length gs)) m n row.row gs o bs =
+    subst (λ v. Gathered v m n row.row gs o bs) c.tolerance-tolerance.ensures
+    (gathers_all c.tolerance-tolerance.result m row.row gs c.loop-i.i n o bs (omega (arith, c.loop-i-test.false)) (omega (arith, long, a.count)) a.gathers) in
+    otherwise c.known.result _ _ _ _
+    (λ l. lost_since (tolerance (length gs)) m n row.row gs o bs got (subst (λ v. tolerance v < missing_count o) a.count l))
+    (λ k e. subst (λ v. (v.count ≡ length gs) × (v.strip ≡ row.strip) × Gathered (tolerance (length gs)) m n row.row gs (take v.count v.unread) (take v.count v.blocks)) (sym e) (a.count, a.strip, got))
+    c.known.ensures

@@ -2,7 +2,7 @@ use Rattle.std.proofs.Common.{◌≡◌, ℕ, ◌<◌, List, [], length, get_or,
 use Rattle.std.proofs.lemmas.List.{length-take-le}
 use Rattle.group.specs.Group.{member, Frame, Ours, NoBlock, Its}
 use Rattle.group.proofs.Frames.{one_member, frame_trans, frame_wider}
-use Rattle.group.proofs.Holding.{holds_read, agrees, at_row}
+use Rattle.group.proofs.Holding.{holds_read, known_row}
 use Rattle.group.proofs.rows.Row.read.Goals as goal
 use Rattle.group.proofs.rows.Row.read.Given.{Over}
 use Rattle.group.proofs.rows.Row.read.Goals.{After-fetch}
@@ -24,17 +24,16 @@ returns-in-Some-clause-keeps g c = λ us u.
 pub returns-clause-keeps : goal.returns-clause-keeps
 returns-clause-keeps g c = λ us u.
     holds_read g.M.Method c.args.self.now.strip c.args.self.now.row c.args.self.now.members.now _ _ us
-    (frame_trans _ _ _ (Ours c.args.self.now.members.now) NoBlock (tried g (goal.at.returns-clause-keeps g c).After-fetch) c.gather-parts.ensures.gathered.frame)
+    (frame_trans _ _ _ (Ours c.args.self.now.members.now) NoBlock (tried g (goal.at.returns-clause-keeps g c).After-fetch) c.gather.ensures.frame)
 
 pub returns-clause-gives : goal.returns-clause-gives
 returns-clause-gives g c = λ us u h.
     let k = g.M.Method in
     let row = c.args.self.now in
     let gs = row.members.now in
-    let ps = c.gather-parts.result in
-    let o = take ps.count ps.unread in
-    let bs = take ps.count ps.blocks in
-    let long : length bs ≡ length gs = length-take-le ps.count ps.blocks (omega (arith, ps.few, ps.eight_blocks)) ∙ c.gather-parts.ensures.count in
-    at_row k row.strip row.row gs (λ (l t : ℕ) (vs : List (List ℕ)). c.user.result ≡ get_or vs c.args.p []) o bs ps.count ps.strip c.gather-parts.ensures.count c.gather-parts.ensures.strip c.user.ensures us u
-    (agrees k row.strip row.row gs _ _ us o bs c.gather-parts.ensures.gathered c.in_ok-suffice.ensures long
-    (holds_read k row.strip row.row gs _ _ us (tried g (goal.at.returns-clause-gives g c).After-fetch) h))
+    let known = c.in-Some-gather.known in
+    let ps = known.parts in
+    let told = c.in-Some-gather.ensures.answer in
+    known_row k row.strip row.row gs (λ (l t : ℕ) (vs : List (List ℕ)). c.user.result ≡ get_or vs c.args.p []) (take ps.count ps.unread) (take ps.count ps.blocks) ps.count ps.strip told.0 told.1 _ _ told.2
+    known.enough (length-take-le ps.count ps.blocks (omega (arith, ps.few, ps.eight_blocks))) c.user.ensures us u
+    (holds_read k row.strip row.row gs _ _ us (tried g (goal.at.returns-clause-gives g c).After-fetch) h)
