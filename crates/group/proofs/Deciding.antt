@@ -1,21 +1,16 @@
 -- From how a write was settled to what its contract says.
-use Rattle.std.proofs.Common.{◌≡◌, ℕ, ◌<◌, ◌≤◌, Bool, leb, List, [], length, get_or, set, Ok, Err, Result, ap, ◌∙◌, subst, inr, arith}
-use Rattle.std.proofs.lemmas.Bool.{or_right, le-leb}
-use Rattle.bus.specs.Drives.{Drive, at}
+use Rattle.std.proofs.Common.{◌≡◌, ℕ, ◌<◌, ◌≤◌, List, [], length, get_or, set, Ok, Err, Result, ◌∙◌, inr}
+use Rattle.bus.specs.Drives.{Drive}
 use Rattle.layout.specs.Blocks.{Blocks}
 use Rattle.layout.specs.Methods.{Sound}
 use Rattle.layout.specs.declared.method.Method.{Ghosts}
 use Rattle.group.specs.declared.member.Member.{Member}
 use Rattle.group.specs.declared.fault.RowFault.{RowFault}
 use Rattle.group.specs.declared.fault.RowFault.TheVariants.{Lost, Failed}
-use Rattle.group.specs.Group.{member, missing, RowLost, RowHolds, Shape, Frame, Its, ItsBlock}
+use Rattle.group.specs.Group.{member, RowLost, RowHolds, Shape, Frame, Its, ItsBlock}
 use Rattle.group.specs.Steps.{Stores}
-use Rattle.group.specs.Sweeps.{Gathered}
 use Rattle.group.specs.Requests.{Settled, Decided, Changes, Rebuilds}
-use Rattle.group.proofs.Holding.{holds_lost, fine_behind, lost_since}
-
-pub settled_as : {U : Type 0} (st sx : ℕ) (n : List Drive) (r : ℕ) (gs : List Member) (i j : ℕ) (x : Result U RowFault) → st ≡ sx → i ≡ j → Settled st n r gs i x → Settled sx n r gs j x
-settled_as st sx n r gs i j x es ei h = subst (λ (a : ℕ). Settled a n r gs j x) es (subst (λ (a : ℕ). Settled st n r gs a x) ei h)
+use Rattle.group.proofs.Holding.{holds_lost, fine_behind}
 
 pub decides : {U : Type 0} (st : ℕ) (m n : List Drive) (r : ℕ) (gs : List Member) (i : ℕ) (x : Result U RowFault) → (RowLost st m r gs → ⊥) → Settled st n r gs i x → Decided st m n r gs i x
 decides st m n r gs i (Ok u) fine h = (fine, h)

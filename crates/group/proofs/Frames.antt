@@ -1,5 +1,5 @@
 -- What a request changes on a bus.
-use Rattle.std.proofs.Common.{◌≡◌, ℕ, suc, ◌+◌, ◌<◌, ◌≤◌, Bool, true, false, leb, List, [], ◌∷◌, length, get_or, set, Ok, Err, None, Result, sym, refl, ap, ◌∙◌, subst, ⊎_elim, arith}
+use Rattle.std.proofs.Common.{◌≡◌, ℕ, suc, ◌+◌, ◌<◌, ◌≤◌, Bool, true, false, leb, List, [], ◌∷◌, length, get_or, set, Ok, Err, Result, sym, refl, ap, ◌∙◌, subst, ⊎_elim, arith}
 use Rattle.std.proofs.lemmas.List.{get_or-set_same, get_or-set_other, length-set}
 use Rattle.std.proofs.lemmas.Bool.{cases_eq, cases_Bool, both_ways, or_cases, or_left, or_right}
 use Rattle.bus.specs.declared.fault.BusFault.{BusFault}
@@ -15,7 +15,7 @@ use Rattle.group.specs.declared.member.Member.{Member}
 use Rattle.group.specs.Group.{missing, missings, held, Frame, Its, ItsBlock, NoBlock}
 use Rattle.group.specs.declared.fault.RowFault.TheVariants.{Failed}
 use Rattle.group.specs.Seen.{seen}
-use Rattle.group.specs.Steps.{Fetched, Sent, Stores}
+use Rattle.group.specs.Steps.{Sent, Stores}
 
 -- one drive replaced, seen from each drive
 each_set : (m : List Drive) (d : ℕ) (v : Drive) (P : Drive → Drive → Type 0) → d < length m → P v (at m d) → ((w : Drive) → P w w) → (e : ℕ) → P (at (set m d v) e) (at m e)
@@ -104,14 +104,6 @@ module _ (m n : List Drive) (r : ℕ) (g : Member) where
 
   pub placed_by : g.start + r < size m g.drive → (len : ℕ) → len ≡ 512 → Placed m g.drive (g.start + r) len
   placed_by h len w = record { exists = there_by_size m g.drive (g.start + r) h; whole = w; within = h }
-
-  pub fetch_failed : (b len : ℕ) (e : BusFault) → Placed m g.drive b len → Faults m n g.drive b len e → Fetched m n r g None
-  fetch_failed b len e p q =
-      let is : n ≡ broke m g.drive = fault_broke m n g.drive b len e p q in
-      record {
-        frame = subst (λ (o : List Drive). Frame m o (Its g) NoBlock) (sym is) (broke_frame m g.drive p.exists);
-        answer = missing_broken (subst (λ (o : List Drive). (at o g.drive).broken ≡ true) (sym is) (broke_there m g.drive p.exists));
-      }
 
   pub sent_by : {U : Type 0} (xs : List ℕ) (s : Result U BusFault) → g.start + r < size m g.drive → length xs ≡ 512 → Writes m n g.drive (g.start + r) xs s → Sent m n r g xs
   sent_by xs (Ok u) h w q = record {

@@ -5,7 +5,6 @@ use Rattle.bus.specs.Drives.{Drive, size}
 use Rattle.group.specs.declared.member.Member.{Member}
 use Rattle.group.specs.Group.{member, missing, held, Shape, Frame, Ours, InRow, Its, ItsBlock}
 use Rattle.group.specs.Steps.{Sent}
-use Rattle.group.specs.Sweeps.{Spread}
 use Rattle.group.proofs.Frames.{frame_refl, frame_trans, frame_wider, missing_back}
 
 pub record Spreads (to : ℕ → Bool) (m : List Drive) (r : ℕ) (gs : List Member) (bs : List (List ℕ)) (i : ℕ) (s : List Drive) : Type 0 where
@@ -49,10 +48,3 @@ module _ (to : ℕ → Bool) (m : List Drive) (r : ℕ) (gs : List Member) (bs :
               let ne : k ≢ i = λ q. let z : i + 1 ≤ k = off (ap to q ∙ on) in omega arith in
               same k l ne ∙ a.kept k l (λ e. omega (arith, off e));
         }
-
-  pub spreads_all : (i : ℕ) (s : List Drive) → length gs ≤ i → Spreads to m r gs bs i s → Spread to m s r gs bs
-  spreads_all i s end a = record {
-    frame = a.frame;
-    written = λ k l e w. a.written k l (omega arith) e w;
-    kept = λ k l e. a.kept k l (λ t. absurd (both_ways (to k) e t));
-  }

@@ -1,9 +1,9 @@
 -- What a read, a write and a rebuild of one block of a row answer, and what they leave: m is the meaning of the bus
 -- before, and n after. The cases of an answer exclude one another.
-use Rattle.std.specs.Prelude.{◌≡◌, ℕ, ◌+◌, ◌<◌, ◌≤◌, Bool, true, false, ◌⊎◌, List, [], length, Ok, Err, Result, slice_index_or, slice_set}
+use Rattle.std.specs.Prelude.{◌≡◌, ℕ, ◌+◌, ◌<◌, true, false, ◌⊎◌, List, [], length, Ok, Err, Result, slice_index_or, slice_set}
 use Rattle.bus.specs.Numbers.{broken_at}
 use Rattle.bus.specs.Drives.{Drive, at}
-use Rattle.layout.specs.Blocks.{missing_count, Blocks}
+use Rattle.layout.specs.Blocks.{Blocks}
 use Rattle.layout.specs.declared.method.Method.{Ghosts}
 use Rattle.group.specs.declared.member.Member.{Member}
 use Rattle.group.specs.declared.fault.RowFault.{RowFault}

@@ -65,6 +65,8 @@ pub enum GroupFault {
 }
 
 impl GroupFault {
+    // Callers print and compare this number, so the enum has it by name.
+
     /// The number of the refusal.
     pub fn number(self) -> u8
         ensures { result ≡ group_number self }

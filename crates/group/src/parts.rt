@@ -8,6 +8,9 @@ use layout::method::Method;
 use layout::row::replace_user;
 use std::marker::PhantomData;
 
+// No heap here: room for as many members as a group can have, of which `count` are there. The marks are no options of blocks,
+// since a method recovers a row of plain blocks.
+
 // The blocks of a row of `count` members, in a strip, and marks of the members that were not read.
 #[derive(Drop)]
 pub(crate) struct Parts<M: Method> {

@@ -5,6 +5,8 @@ ghost use Rattle.group.specs.Group.{member};
 use crate::member::Member;
 use layout::geometry::{Geometry, MOST_MEMBERS};
 
+// No heap here: room for the most members, and `active` gives those that there are.
+
 /// A group of up to 8 members, on different drives. What holds of it whatever the bus stands in its type.
 #[derive(Clone, Copy, PartialEq, Eq, Debug)]
 pub struct Group {

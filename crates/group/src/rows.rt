@@ -9,9 +9,12 @@ use crate::fault::RowFault;
 use crate::member::Member;
 use crate::parts::place;
 use bus::Bus;
-use layout::block::{Block, bytes_fit};
+use layout::block::Block;
 use layout::method::Method;
 use std::marker::PhantomData;
+
+// `Shape` speaks of the bus too, and stays a clause: with the bus in the row, each call would have to say instead that the
+// row is the same after it.
 
 // A row of a group: its number, the strip that it is of, and the members, as many as a group by the method has.
 #[derive(Drop)]
@@ -118,7 +121,6 @@ impl<'a, M: Method> Row<'a, M> {
         ensures holds { (us : List (List ℕ)) → Blocks (M.Method.width (length self.now.members.now)) us → RowHolds M.Method self.now.strip (B.Bus.drives bus.old) self.now.row self.now.members.now us → RowHolds M.Method self.now.strip (B.Bus.drives bus.new) self.now.row self.now.members.now (slice_set us p new.now) }
     {
         let home = self.home(p);
-        bytes_fit(new);
         match self.gather(bus) {
             Some(known) => self.spread(bus, home, &known.replaced(p, new)),
             None => self.members[home].send(bus, self.row, new),

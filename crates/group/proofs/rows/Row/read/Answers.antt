@@ -1,4 +1,4 @@
-use Rattle.std.proofs.Common.{◌≡◌, ℕ, ◌<◌, List, [], length, get_or, take, ◌∙◌, arith}
+use Rattle.std.proofs.Common.{◌≡◌, ℕ, ◌<◌, List, [], length, get_or, take, arith}
 use Rattle.std.proofs.lemmas.List.{length-take-le}
 use Rattle.group.specs.Group.{member, Frame, Ours, NoBlock, Its}
 use Rattle.group.proofs.Frames.{one_member, frame_trans, frame_wider}

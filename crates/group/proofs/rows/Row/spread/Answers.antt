@@ -1,4 +1,4 @@
-use Rattle.std.proofs.Common.{◌+◌, List, [], length, take, sym, ap, ◌∙◌, subst, arith}
+use Rattle.std.proofs.Common.{◌+◌, List, [], length, take, sym, ap, ◌∙◌, subst}
 use Rattle.std.proofs.lemmas.List.{get_or-take}
 use Rattle.bus.specs.Drives.{Drive}
 use Rattle.group.specs.Group.{member}
