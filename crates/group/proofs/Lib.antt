@@ -7,4 +7,3 @@ pub mod Holding
 pub mod Deciding
 pub mod Recording
 pub mod Filled
-pub mod Moving

@@ -5,11 +5,8 @@ use Rattle.group.specs.declared.fault.GroupFault.TheVariants.{Failed}
 use Rattle.group.specs.declared.fill.Stop.{Stop}
 use Rattle.group.specs.Filling.{FillsOne, Fills, extent}
 use Rattle.group.proofs.Answering.{was_ok, was_err}
-use Rattle.group.proofs.Filled.{no_members_filled, member_filled, member_stops, members_filled}
+use Rattle.group.proofs.Filled.{member_filled, member_stops}
 use Rattle.group.proofs.fill.fill.Goals as goal
-
-pub loop-member-init : goal.loop-member-init
-loop-member-init g c = no_members_filled (g.B.Bus.drives c.args.bus.now) c.args.extents.now
 
 pub loop-member-preserved : goal.loop-member-preserved
 loop-member-preserved g c =
@@ -36,7 +33,3 @@ returns-in_err-map_err g c =
     (subst (λ (x : GroupFault). Fills {U = Unit {0}} m n es c.args.number (Err x)) (sym is)
     (member_stops m s n es i c.loop-member-test.true c.loop-member.invariant (Unit {0}) c.args.number p.0 c.if-not-sound_rows.ensures
     (subst (λ (x : Result (Unit {0}) Stop). FillsOne s n (extent es i) x) p.1 c.fill_extent.ensures)))
-
-pub returns : goal.returns
-returns g c =
-    members_filled (g.B.Bus.drives c.args.bus.now) (g.B.Bus.drives c.loop-member.bus) c.args.extents.now c.loop-member.member-counter c.loop-member-test.false c.if-not-sound_rows.ensures c.loop-member.invariant

@@ -5,11 +5,8 @@ use Rattle.bus.specs.Requests.{Writes}
 use Rattle.group.specs.declared.fill.Stop.{Stop}
 use Rattle.group.specs.Filling.{zeros, FillsOne}
 use Rattle.group.proofs.Answering.{was_ok, was_err}
-use Rattle.group.proofs.Filled.{filled_none, filled_more, filled_stops}
+use Rattle.group.proofs.Filled.{filled_more, filled_stops}
 use Rattle.group.proofs.fill.fill_extent.Goals as goal
-
-pub loop-row-init : goal.loop-row-init
-loop-row-init g c = filled_none (g.B.Bus.drives c.args.bus.now) c.args.e
 
 pub loop-row-preserved : goal.loop-row-preserved
 loop-row-preserved g c =

@@ -2,7 +2,6 @@ use Rattle.std.proofs.Common.{◌≡◌, ℕ, ◌≤◌, List, [], length, get_o
 use Rattle.std.proofs.lemmas.List.{length-take-le}
 use Rattle.layout.specs.Blocks.{missing_count}
 use Rattle.group.specs.Group.{member, Frame, Ours, NoBlock, Its, ItsBlock}
-use Rattle.group.proofs.Frames.{frame_trans, frame_wider}
 use Rattle.group.proofs.Holding.{shape_still, fine_since, holds_read, known_row, holds_behind}
 use Rattle.group.proofs.Deciding.{stored_frame, rebuilds_by}
 use Rattle.group.proofs.rows.Row.rebuild.Goals as goal
@@ -12,15 +11,6 @@ use Rattle.group.proofs.rows.Row.rebuild.Goals.{After-store}
 -- what storing the block changes
 wrote : (g : Over) (c : After-store g) → Frame (g.B.Bus.drives c.gather.new.bus) (g.B.Bus.drives c.store.new.bus) (Its (member c.args.self.now.members.now c.args.i)) (ItsBlock c.args.self.now.row (member c.args.self.now.members.now c.args.i))
 wrote g c = stored_frame g.M.Method c.args.self.now.strip c.args.self.now.row c.args.self.now.members.now c.args.i (g.B.Bus.drives c.args.bus.now) _ _ c.block-block.result c.store.result c.store.ensures
-
-pub returns-clause-frame : goal.returns-clause-frame
-returns-clause-frame g c =
-    let gs = c.args.self.now.members.now in
-    let i = c.args.i in
-    let its = ItsBlock c.args.self.now.row (member gs i) in
-    frame_trans _ _ _ (Ours gs) its
-    (frame_wider _ _ (Ours gs) (Ours gs) NoBlock its (λ d y. y) (λ d e y. absurd y) c.gather.ensures.frame)
-    (frame_wider _ _ (Its (member gs i)) (Ours gs) its its (λ d e. (i, c.requires.inside, e)) (λ d e y. y) (wrote g c))
 
 pub returns-clause-keeps : goal.returns-clause-keeps
 returns-clause-keeps g c = λ us u h.
