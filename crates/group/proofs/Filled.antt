@@ -9,7 +9,7 @@ use Rattle.layout.specs.declared.extent.ExtentRow.{ExtentRow}
 use Rattle.layout.specs.Extents.{Sound, Covers}
 use Rattle.group.specs.declared.fill.Stop.{Stop}
 use Rattle.group.specs.Group.{Frame, NoBlock}
-use Rattle.group.specs.Filling.{extent, zeros, Zeroed, Stops, OneDrive, FillsOne, SomeDrive, SomeBlock, Stopped, Filled}
+use Rattle.group.specs.Filling.{extent, zeros, Zeroed, Stops, OneDrive, FillsOne, SomeDrive, SomeBlock, Stopped}
 use Rattle.group.proofs.Frames.{frame_refl, frame_trans, frame_wider, broke_frame, broke_there, stored_frame, stored_there, stored_broken}
 
 -- the first k blocks of the extent e are filled, and nothing else changed
@@ -143,11 +143,3 @@ module _ (m s n : List Drive) (es : List ExtentRow) (i : ℕ) (inside : i < leng
   pub member_stops : (U : Type 0) (number : ℕ) (x : Stop) → ((k : ℕ) → k < length es → Sound (extent es k)) → FillsOne {U = U} s n (extent es i) (Err x) → Stopped m n es number number x.row i x.fault
   member_stops U number x sound told =
       record { frame = one_of told.0; group = refl; inside = inside; row = told.1; fault = told.2; sound = sound }
-
-pub members_filled : (m n : List Drive) (es : List ExtentRow) (i : ℕ) → length es ≤ i → ((j : ℕ) → j < length es → Sound (extent es j)) → FilledMembers m n es i → Filled m n es
-members_filled m n es i all sound fs = record {
-  frame = fs.frame;
-  zeros = λ j r h l. (fs.zeroed j (omega arith)).blocks r l;
-  works = λ j h. (fs.zeroed j (omega arith)).works (sound j h).some;
-  sound = sound;
-}
