@@ -4,8 +4,15 @@ ghost use Rattle.std.specs.Prelude.{◌≤◌};
 /// The most runs of a volume set.
 pub const MOST_RUNS: usize = 4;
 
+/// A block of a volume set: any numbers at all.
+#[derive(Clone, Copy, PartialEq, Eq, Debug)]
+pub struct VolumeBlock {
+    pub volume: usize,
+    pub block: usize,
+}
+
 /// A run of protected blocks of a group: any numbers at all.
-#[derive(Clone, Copy)]
+#[derive(Clone, Copy, PartialEq, Eq, Debug)]
 pub struct Run {
     pub group: usize,
     pub first: usize,
