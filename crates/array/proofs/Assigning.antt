@@ -1,31 +1,11 @@
--- The extents of the members of a group, and those of new groups beside them.
-use Rattle.std.proofs.Common.{◌≡◌, ℕ, ◌+◌, ◌<◌, ◌≤◌, List, map, length, get_or, Bool, true, [], Some, None, Option, ◌↔◌, sym, refl, ap, subst, arith}
-use Rattle.std.proofs.lemmas.List.{length-take, length-map, get_or-take}
+-- Extents that share a block with a member of a group.
+use Rattle.std.proofs.Common.{◌≡◌, ℕ, ◌<◌, List, map, length, get_or, Bool, true, [], Some, None, Option, ◌↔◌, sym, refl, ap, subst, arith}
+use Rattle.std.proofs.lemmas.List.{length-map}
 use Rattle.layout.specs.declared.extent.ExtentRow.{ExtentRow}
-use Rattle.layout.specs.Extents.{Sound}
-use Rattle.group.specs.declared.member.Member.{Member}
-use Rattle.group.specs.Group.{nobody, member}
-use Rattle.group.specs.Record.{members_of}
 use Rattle.array.specs.declared.slot.GroupSlot.{GroupSlot}
-use Rattle.array.specs.Configuration.{GroupConfig, configuration, group_at, extent_at, group_view, is_some, mapped_option, no_group, or_else}
+use Rattle.array.specs.Configuration.{GroupConfig, configuration, group_at, group_view, is_some, mapped_option, no_group, or_else}
 use Rattle.array.specs.Planning.{Assigned, Shared, slot_view}
 use Rattle.array.proofs.Tabling.{entry_seen}
-
--- the extent of a member is one
-pub sound_member : (s : GroupSlot) (i : ℕ) → i < length (members_of s.group) → Sound (extent_at (group_view s) i)
-sound_member s i h =
-    let l : i < s.group.geometry.members = omega (arith, length-take s.group.geometry.members s.group.members) in
-    record {
-      some = s.group.geometry.some_rows;
-      ends =
-          subst (λ (m : Member). m.start + s.group.geometry.rows ≤ 65536) (sym (get_or-take s.group.geometry.members s.group.members i nobody l))
-          (s.group.ends i l);
-    }
-
--- it is the row of its parts
-pub row_of_member : (s : GroupSlot) (ms : List Member) (rows i : ℕ) → ms ≡ members_of s.group → rows ≡ s.group.geometry.rows →
-    ◌≡◌ {A = ExtentRow} (record { drive = (member ms i).drive; start = (member ms i).start; count = rows }) (extent_at (group_view s) i)
-row_of_member s ms rows i p q = cc
 
 some_group : (x : Option GroupConfig) (i : ℕ) → i < length (or_else no_group x).members → is_some x ≡ true
 some_group None i h = absurd (omega arith)

@@ -2,11 +2,16 @@
 use Rattle.std.proofs.Common.{◌≡◌, ℕ, ◌<◌, Bool, true, List, map, length, get_or, set, Some, None, Option, sym, refl, ap, ◌∙◌, subst, ⊎_elim, arith}
 use Rattle.std.proofs.lemmas.List.{length-map, length-set, get_or-set_same, get_or-set_other, ext_get_or}
 use Rattle.std.proofs.lemmas.Bool.{cases_eq}
+use Rattle.std.proofs.Math.ListN.{get_or-map}
+use Rattle.std.specs.Array.{IsMapOf}
+use Rattle.std.specs.Fn.{Called}
+use denote.Param.Members.{Mut}
 use Rattle.array.specs.declared.tables.Array.{Array}
 use Rattle.array.specs.declared.volume.Volume.{Volume}
 use Rattle.array.specs.Arrays.{config}
 use Rattle.array.specs.Configuration.{configuration, volume_view, VolumeConfig, Configuration, volume_at, with_volume, with_writes, controlled, or_else, no_volume, is_some, mapped_option}
-use Rattle.array.proofs.Tabling.{at_mapped, same_some, entry_seen, configured_behind}
+use Rattle.array.proofs.Chains.{map_by_index}
+use Rattle.array.proofs.Tabling.{same_some, entry_seen, configured_behind}
 use Rattle.array.proofs.Keeping.{Kept, Fields, runs_left, kept_of, volume_set, fields_by}
 
 -- the entry of volume set v under write control
@@ -53,26 +58,31 @@ module _ (a : Array) (v : ℕ) (on : Bool) (inside : v < length a.volumes) (x y 
       fields_by a.groups (set a.volumes v y) (with_volume (config a) v (entry_on (config a) v on)) a.eight (length-set a.volumes v y ∙ a.sixteen) a.numbered control_set
       (control_kept (config a) v on (omega (arith, length-map a.volumes (mapped_option volume_view))) (kept_of a))
 
--- the tables of an array of which every volume set was put under write control
-module _ (a : Array) (on : Bool) (ys : List (Option Volume)) (long : length ys ≡ 16)
-    (is : (i : ℕ) → i < 16 → mapped_option volume_view (get_or ys i None) ≡ mapped_option (with_writes on) (mapped_option volume_view (get_or a.volumes i None))) where
+-- the tables of an array of which every volume set was put under write control, by the closure f
+module _ {F : Type 0} (g : Mut F (Option Volume × Unit {0}) (Option Volume)) (f : F) (a : Array) (on : Bool)
+    (each : (x y : Option Volume) (q : F) → Called g f (x, tt) y q → (q ≡ f) × (mapped_option volume_view y ≡ mapped_option (with_writes on) (mapped_option volume_view x)))
+    (ys : List (Option Volume)) (made : IsMapOf g f a.volumes ys 16) where
+  controlled_at : (i : ℕ) → i < 16 → mapped_option volume_view (get_or ys i None) ≡ mapped_option (with_writes on) (mapped_option volume_view (get_or a.volumes i None))
+  controlled_at i h =
+      map_by_index g f (λ (x y : Option Volume). mapped_option volume_view y ≡ mapped_option (with_writes on) (mapped_option volume_view x)) each a.volumes ys 0 16 made.each None None i (omega arith) (omega arith)
+
   pub control_mapped : configuration a.groups ys ≡ controlled (config a) None on
   control_mapped =
       let vs = map (mapped_option volume_view) a.volumes in
       ap (λ (x : List (Option VolumeConfig)). record { groups = (config a).groups; volumes = x })
       (ext_get_or None (map (mapped_option volume_view) ys) (map (mapped_option (with_writes on)) vs)
-      (length-map ys (mapped_option volume_view) ∙ long ∙ sym a.sixteen ∙ sym (length-map a.volumes (mapped_option volume_view)) ∙ sym (length-map vs (mapped_option (with_writes on))))
+      (length-map ys (mapped_option volume_view) ∙ made.long ∙ sym a.sixteen ∙ sym (length-map a.volumes (mapped_option volume_view)) ∙ sym (length-map vs (mapped_option (with_writes on))))
       (λ i l.
-      at_mapped volume_view ys i ∙ is i (omega (arith, length-map ys (mapped_option volume_view), long)) ∙ ap (mapped_option (with_writes on)) (sym (at_mapped volume_view a.volumes i))
-      ∙ sym (at_mapped (with_writes on) vs i)))
+      get_or-map (mapped_option volume_view) ys i None ∙ controlled_at i (omega (arith, length-map ys (mapped_option volume_view), made.long)) ∙ ap (mapped_option (with_writes on)) (sym (get_or-map (mapped_option volume_view) a.volumes i None))
+      ∙ sym (get_or-map (mapped_option (with_writes on)) vs i None)))
 
   mapped_kept : Kept (controlled (config a) None on)
   mapped_kept =
       let vs = map (mapped_option volume_view) a.volumes in
       runs_left (config a) (map (mapped_option (with_writes on)) vs)
       (λ v h. configured_behind (with_writes on) vs v h)
-      (λ v. ap (λ (x : Option VolumeConfig). (or_else no_volume x).runs) (at_mapped (with_writes on) vs v) ∙ same_runs on (get_or vs v None))
+      (λ v. ap (λ (x : Option VolumeConfig). (or_else no_volume x).runs) (get_or-map (mapped_option (with_writes on)) vs v None) ∙ same_runs on (get_or vs v None))
       (kept_of a)
 
   pub mapped_fields : Fields a.groups ys
-  mapped_fields = fields_by a.groups ys (controlled (config a) None on) a.eight long a.numbered control_mapped mapped_kept
+  mapped_fields = fields_by a.groups ys (controlled (config a) None on) a.eight made.long a.numbered control_mapped mapped_kept

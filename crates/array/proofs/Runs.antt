@@ -1,56 +1,13 @@
--- Runs that overlap, by their numbers, and the runs of a table.
-use Rattle.std.proofs.Common.{◌≡◌, ℕ, ◌-◌, ◌<◌, ◌≤◌, Bool, true, false, ltb, List, [], map, length, get_or, take, Some, None, MatchBool, ◌↔◌, Option, sym, refl, ap, ◌∙◌, subst, mul-zero, arith, ltb-false, ltb-true}
-use Rattle.std.proofs.lemmas.List.{length-take-le, get_or-take, get_or_past, length-map}
+-- The runs of a table, and runs that share no block with one another.
+use Rattle.std.proofs.Common.{◌≡◌, ℕ, ◌<◌, Bool, true, List, [], map, length, get_or, take, Some, None, ◌↔◌, Option, sym, refl, ap, ◌∙◌, subst, arith}
+use Rattle.std.proofs.lemmas.List.{length-take-le, get_or-take, length-map}
 use Rattle.std.proofs.lemmas.List.FromFn.{length-enumerate_from, get_or-enumerate_from}
 use Rattle.std.specs.List.{enumerate_from}
 use Rattle.array.specs.Checks.{RunsSeparate}
-use Rattle.array.specs.declared.slot.GroupSlot.{GroupSlot}
 use Rattle.array.specs.declared.volume.Run.{Run}
 use Rattle.array.specs.declared.volume.Volume.{Volume}
-use Rattle.array.specs.Configuration.{GroupConfig, VolumeConfig, HasRun, run, is_some, RunsOverlap, configuration, group_at, volume_at, group_view, volume_view, mapped_option, or_else, no_group, no_volume, no_run}
-use Rattle.array.specs.declared.kind.MethodKind.TheVariants.{NoRedundancy}
-use Rattle.array.specs.Kinds.{method}
-use Rattle.array.specs.Places.{size_of}
+use Rattle.array.specs.Configuration.{VolumeConfig, HasRun, run, is_some, RunsOverlap, configuration, volume_at, volume_view, mapped_option, or_else, no_volume, no_run}
 use Rattle.array.proofs.Tabling.{entry_seen}
-
-when_by : (b : Bool) (P Q : Type 0) → (b ≡ true → P) → (b ≡ false → Q) → MatchBool b P Q
-when_by true P Q f g = f refl
-when_by false P Q f g = g refl
-
--- where s begins no earlier than r, its first block decides
-module _ (r s : Run) (same : r.group ≡ s.group) (later : r.first ≤ s.first) (some : 1 ≤ s.count) where
-  meet : s.first - r.first < r.count → RunsOverlap r s
-  meet h = (s.group, s.first, record { group = sym same; from = later; below = omega arith }, record { group = refl; from = omega arith; below = omega arith })
-
-  part : r.count ≤ s.first - r.first → RunsOverlap r s → ⊥
-  part h o = omega (arith, o.2.below, o.3.from)
-
-  pub overlap_later : MatchBool (ltb (s.first - r.first) r.count) (RunsOverlap r s) (RunsOverlap r s → ⊥)
-  overlap_later = when_by (ltb (s.first - r.first) r.count) (RunsOverlap r s) (RunsOverlap r s → ⊥) (λ t. meet (ltb-true _ _ t)) (λ f. part (ltb-false _ _ f))
-
-  pub overlap_earlier : MatchBool (ltb (s.first - r.first) r.count) (RunsOverlap s r) (RunsOverlap s r → ⊥)
-  overlap_earlier =
-      when_by (ltb (s.first - r.first) r.count) (RunsOverlap s r) (RunsOverlap s r → ⊥)
-      (λ t. let o = meet (ltb-true _ _ t) in (o.0, o.1, o.3, o.2))
-      (λ f o. part (ltb-false _ _ f) (o.0, o.1, o.3, o.2))
-
--- what a table of volume sets, and one of groups, says of a number
-module _ (vs : List (Option Volume)) (v : ℕ) where
-  pub runs_seen : (x : Option Volume) → get_or vs v None ≡ x → (or_else no_volume (mapped_option volume_view x)).runs ≡ (volume_at (configuration [] vs) v).runs
-  runs_seen x e = ap (λ (y : Option VolumeConfig). (or_else no_volume y).runs) (sym (entry_seen volume_view vs v x e))
-
-  pub runs_past : length vs ≤ v → [] ≡ (volume_at (configuration [] vs) v).runs
-  runs_past h = runs_seen None (get_or_past vs v None h)
-
-module _ (gs : List (Option GroupSlot)) (g : ℕ) where
-  pub size_seen : (x : Option GroupSlot) → get_or gs g None ≡ x → size_of (or_else no_group (mapped_option group_view x)) ≡ size_of (group_at (configuration gs []) g)
-  size_seen x e = ap (λ (y : Option GroupConfig). size_of (or_else no_group y)) (sym (entry_seen group_view gs g x e))
-
-  pub size_none : get_or gs g None ≡ None → 0 ≡ size_of (group_at (configuration gs []) g)
-  size_none e = sym (mul-zero ((method NoRedundancy).width 0)) ∙ size_seen None e
-
-  pub size_past : length gs ≤ g → 0 ≡ size_of (group_at (configuration gs []) g)
-  size_past h = size_none (get_or_past gs g None h)
 
 -- the runs of an entry of a table
 abbrev pub runs_in : Option Volume → List Run
@@ -70,7 +27,7 @@ module _ (P : Run → Type 0) where
 
   module _ (vs : List (Option Volume)) (v : ℕ) where
     same : runs_in (get_or vs v None) ≡ (volume_at (configuration [] vs) v).runs
-    same = runs_seen vs v (get_or vs v None) refl
+    same = ap (λ (x : Option VolumeConfig). (or_else no_volume x).runs) (sym (entry_seen volume_view vs v (get_or vs v None) refl))
 
     no_run_at : NoneOf (get_or vs v None) → (j : ℕ) → HasRun (configuration [] vs) v j → P (run (volume_at (configuration [] vs) v).runs j) → ⊥
     no_run_at none j h p = none (j, subst (λ (rs : List Run). j < length rs) (sym same) h.1, subst (λ (rs : List Run). P (run rs j)) (sym same) p)

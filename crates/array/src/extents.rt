@@ -5,6 +5,7 @@ ghost use Rattle.array.specs.Configuration.{rows_in};
 ghost use Rattle.array.specs.Checks.{EachExtent, GroupFields};
 
 use crate::kind::MethodKind;
+use crate::scan::ends_by;
 use bus::Bus;
 use layout::extent::ExtentRow;
 use layout::refusal::Refusal;
@@ -34,17 +35,11 @@ pub(crate) fn all_on_bus<B: Bus>(bus: &B, extents: &[ExtentRow]) -> bool
     extents.iter().all(|e| e.drive < count)
 }
 
-// Whether the extent ends no later than its drive.
-fn lies_inside<B: Bus>(bus: &B, e: ExtentRow) -> bool
-    ensures { IsTrue result ↔ (e.start + e.count ≤ size (B.Bus.drives bus.now) e.drive) }
-{
-    let capacity = bus.capacity(e.drive);
-    e.start <= capacity && e.count <= capacity - e.start
-}
-
 // Whether every extent lies on its drive.
 pub(crate) fn all_inside<B: Bus>(bus: &B, extents: &[ExtentRow]) -> bool
     ensures { IsTrue result ↔ EachExtent extents.now (λ e. e.start + e.count ≤ size (B.Bus.drives bus.now) e.drive) }
 {
-    extents.iter().all(|e| lies_inside(bus, *e))
+    extents
+        .iter()
+        .all(|e| ends_by(e.start, e.count, bus.capacity(e.drive)))
 }

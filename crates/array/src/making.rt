@@ -46,10 +46,9 @@ fn is_assigned(groups: &[Option<GroupSlot>], e: &Extent) -> bool
     groups.iter().any(|entry| shares(entry, e))
 }
 
-// Whether no extent shares a block with a member of a group.
+// Whether no extent, as far as the rows are extents, shares a block with a member of a group.
 fn are_unassigned(groups: &[Option<GroupSlot>], extents: &[ExtentRow]) -> bool
-    requires { EachExtent extents.now Sound }
-    ensures { IsTrue result ↔ EachExtent extents.now (Unassigned (configuration groups.now [])) }
+    ensures { IsTrue result ↔ EachExtent extents.now (λ e. Sound e → Unassigned (configuration groups.now []) e) }
 {
     !extents.iter().any(|row| Extent::new(*row).is_some_and(|e| is_assigned(groups, &e)))
 }

@@ -115,19 +115,18 @@ pub(crate) fn are_separate(runs: &[Run]) -> bool
         .all(|(j, run)| !overlaps_any(*run, &runs[..j]))
 }
 
-// Whether the run ends inside its group.
-fn is_inside(groups: &[Option<GroupSlot>], r: Run) -> bool
-    ensures { IsTrue result ↔ (r.first + r.count ≤ size_of (group_at (configuration groups.now []) r.group)) }
+/// Whether `count` blocks from `start` on end no later than `end`.
+pub(crate) fn ends_by(start: usize, count: usize, end: usize) -> bool
+    ensures { IsTrue result ↔ (start + count ≤ end) }
 {
-    let size = size_at(groups, r.group);
-    r.first <= size && r.count <= size - r.first
+    start <= end && count <= end - start
 }
 
 /// Whether every run ends inside its group.
 pub(crate) fn are_inside(groups: &[Option<GroupSlot>], runs: &[Run]) -> bool
     ensures { IsTrue result ↔ EachRun runs.now (λ r. r.first + r.count ≤ size_of (group_at (configuration groups.now []) r.group)) }
 {
-    runs.iter().all(|run| is_inside(groups, *run))
+    runs.iter().all(|run| ends_by(run.first, run.count, size_at(groups, run.group)))
 }
 
 /// Whether the groups of all the runs are there.

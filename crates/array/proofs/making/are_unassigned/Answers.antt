@@ -16,4 +16,4 @@ returns c =
     let none =
     none_by_index (λ (i : ℕ). Taken (extent es i)) (length es) c.any.result
     (any_by_index Taken no_extent _ _ _ c.any.ensures.ran (YieldsList-from_slice es cc) (λ x q k. search (rules, tests)) (λ x q k. search (rules, tests))) in
-    (λ t i h g j has o. none.0 t i h (c.requires i h, (g, j, has, o)), λ each. none.1 (λ i h taken. each i h taken.1.0 taken.1.1 taken.1.2 taken.1.3))
+    (λ t i h ok g j has o. none.0 t i h (ok, (g, j, has, o)), λ each. none.1 (λ i h taken. each i h taken.0 taken.1.0 taken.1.1 taken.1.2 taken.1.3))

@@ -30,9 +30,6 @@ lying g c = record { on_bus = c.all_on_bus.ensures.0 c.in_ok-ensure-2.ensures; i
 sound : (g : _) (c : In_ok-ensure-4 g) → EachExtent c.args.extents.now Sound
 sound g c = sound_extents (g.B.Bus.drives c.args.bus.now) c.in_ok-kind.kind c.args.depth c.args.extents.now (g.B.Bus.sound c.args.bus.now) (c.fields_fit.ensures.0 c.in_ok-ensure.ensures) (lying g c)
 
-pub are_unassigned-requires : goal.are_unassigned-requires
-are_unassigned-requires g c = sound g (goal.at.are_unassigned-requires g c).In_ok-ensure-4
-
 pub build-requires : goal.build-requires
 build-requires g c = (c.fields_fit.ensures.0 c.in_ok-ensure.ensures, sound g (goal.at.build-requires g c).In_ok-ensure-4)
 
@@ -52,7 +49,7 @@ returns-in_err-ensure-5 g c =
     let at = goal.at.returns-in_err-ensure-5 g c in
     let lies = lying g at.In_ok-ensure-4 in
     unplanned Conflict _ c.in_err-ensure-5.ensures.1 _ (config c.args.self.now) c.args.g c.args.code c.args.depth c.args.extents.now _ c.from_residual-in_err-ensure-5.ensures.1 refl
-    (λ n. inr (fields g at.In_ok-ensure, inr (lies.on_bus, inr (free g at.In_ok-ensure-3, inr (lies.inside, inl (λ both. iff_false c.are_unassigned.ensures c.in_err-ensure-5.ensures.0 both.0, refl))))))
+    (λ n. inr (fields g at.In_ok-ensure, inr (lies.on_bus, inr (free g at.In_ok-ensure-3, inr (lies.inside, inl (λ both. iff_false c.are_unassigned.ensures c.in_err-ensure-5.ensures.0 (λ i h ok. both.0 i h), refl))))))
 
 pub returns-in_err-slot : goal.returns-in_err-slot
 returns-in_err-slot g c =
@@ -75,7 +72,7 @@ returns g c =
       lying = lying g at.In_ok-ensure-4;
       free = free g at.In_ok-ensure-3;
       below = free_below group_view c.args.self.now.groups c.args.g 8 c.args.self.now.eight (free g at.In_ok-ensure-3);
-      unassigned = c.are_unassigned.ensures.0 c.in_ok-ensure-5.ensures;
+      unassigned = λ i h. c.are_unassigned.ensures.0 c.in_ok-ensure-5.ensures i h (sound g at.In_ok-ensure-4 i h);
       apart = built.apart;
       sound = sound g at.In_ok-ensure-4;
       number = built.number;
