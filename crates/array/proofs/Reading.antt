@@ -87,7 +87,7 @@ module _ (m : List Drive) (c : Configuration) (v b : ℕ) (s : GroupSlot) (q : �
       let p = place_of (method s.kind) (method_sound s.kind) g.members g.depth g.rows g.some_members g.few_members g.some_depth g.whole_strips q (k.width g.members) (capped (layout.home_of (method s.kind) g.members g.depth q)) lt refl refl in
       u.2 _ (record { enough = s.enough; buffer = h; inside = lt; place = p; lies = lies on (layout.row_of (method s.kind) g.members g.depth q) p.row_inside })
   never_unready on len h Whole u = u
-  never_unready on len h (Lost a r i d x) u = u
+  never_unready on len h (Lost a r i x) u = u
   never_unready on len h (Failed a r i f) u = u
 
 module _ (m n : List Drive) (c : Configuration) (v b : ℕ) (s : GroupSlot) (q : ℕ) (found : FoundAt c v b s q) where
@@ -106,9 +106,9 @@ module _ (m n : List Drive) (c : Configuration) (v b : ℕ) (s : GroupSlot) (q :
     reads (has, (fits, (below, u))) on (Err Short) h = absurd (never_unready m c v b s q found on (length was) fits Short h.0)
     reads (has, (fits, (below, u))) on (Err Beyond) h = absurd (never_unready m c v b s q found on (length was) fits Beyond h.0)
     reads (has, (fits, (below, u))) on (Err Whole) h = absurd h
-    reads (has, (fits, (below, u))) on (Err (Lost x r i d y)) (a, h) =
-        let o : ReadLost (method s.kind) m n s.group q was is x r i d y (place_in (group_view s) q) =
-        subst (λ z. ReadLost (method s.kind) m n s.group q was is x r i d y z) (same_place s q a h.served.ready.place) h in (
+    reads (has, (fits, (below, u))) on (Err (Lost x r i y)) (a, h) =
+        let o : ReadLost (method s.kind) m n s.group q was is x r i y.drive y.block (place_in (group_view s) q) =
+        subst (λ z. ReadLost (method s.kind) m n s.group q was is x r i y.drive y.block z) (same_place s q a h.served.ready.place) h in (
           inr (has, inr (fits, inr (below, inl ((λ held. held (over m c v b s q found (λ g z. LostBlock (λ d. (at n d).broken) g z) o.lost)), refl)))),
           o.buffer,
           refl,
@@ -118,7 +118,7 @@ module _ (m n : List Drive) (c : Configuration) (v b : ℕ) (s : GroupSlot) (q :
               block = refl;
               group = o.names.group ∙ found.slot.number;
               row = over m c v b s q found (λ g z. r ≡ row_of g z) o.names.row;
-              member_of = over m c v b s q found (λ g z. NamesMember n g r i d y) (names_member s q n (row_of (group_view s) q) x r i d y o.names refl);
+              member_of = over m c v b s q found (λ g z. NamesMember n g r i y.drive y.block) (names_member s q n (row_of (group_view s) q) x r i y.drive y.block o.names refl);
             },
             over m c v b s q found (λ g z. Frame m n (Ours g.members) NoBlock) o.served.frame,
           ),
@@ -155,9 +155,9 @@ module _ (m n : List Drive) (c : Configuration) (v b : ℕ) (s : GroupSlot) (q :
     writes (has, (fits, (below, u))) enabled on (Err Short) h = absurd (never_unready m c v b s q found on (length bytes) fits Short h.0)
     writes (has, (fits, (below, u))) enabled on (Err Beyond) h = absurd (never_unready m c v b s q found on (length bytes) fits Beyond h.0)
     writes (has, (fits, (below, u))) enabled on (Err Whole) h = absurd h
-    writes (has, (fits, (below, u))) enabled on (Err (Lost x r i d y)) (a, h) =
-        let o : WriteLost (method s.kind) m n s.group q bytes x r i d y (place_in (group_view s) q) =
-        subst (λ z. WriteLost (method s.kind) m n s.group q bytes x r i d y z) (same_place s q a h.served.ready.place) h in (
+    writes (has, (fits, (below, u))) enabled on (Err (Lost x r i y)) (a, h) =
+        let o : WriteLost (method s.kind) m n s.group q bytes x r i y.drive y.block (place_in (group_view s) q) =
+        subst (λ z. WriteLost (method s.kind) m n s.group q bytes x r i y.drive y.block z) (same_place s q a h.served.ready.place) h in (
           inr (
             has,
             inr (
@@ -167,7 +167,7 @@ module _ (m n : List Drive) (c : Configuration) (v b : ℕ) (s : GroupSlot) (q :
                 inr (
                   enabled,
                   inl (
-                    over m c v b s q found (λ g z. (LostRow (λ d. (at m d).broken) g (row_of g z) → ⊥) × (LostBlock (λ d. (at n d).broken) g z → ⊥) → ⊥) (refused x r i d y o),
+                    over m c v b s q found (λ g z. (LostRow (λ d. (at m d).broken) g (row_of g z) → ⊥) × (LostBlock (λ d. (at n d).broken) g z → ⊥) → ⊥) (refused x r i y.drive y.block o),
                     refl,
                   ),
                 ),
@@ -181,9 +181,9 @@ module _ (m n : List Drive) (c : Configuration) (v b : ℕ) (s : GroupSlot) (q :
               block = refl;
               group = o.names.group ∙ found.slot.number;
               row = over m c v b s q found (λ g z. r ≡ row_of g z) o.names.row;
-              member_of = over m c v b s q found (λ g z. NamesMember n g r i d y) (names_member s q n (row_of (group_view s) q) x r i d y o.names refl);
+              member_of = over m c v b s q found (λ g z. NamesMember n g r i y.drive y.block) (names_member s q n (row_of (group_view s) q) x r i y.drive y.block o.names refl);
             },
-            over m c v b s q found (λ g z. Left m n g z) (write_left x r i d y o),
+            over m c v b s q found (λ g z. Left m n g z) (write_left x r i y.drive y.block o),
           ),
         )
     writes (has, (fits, (below, u))) enabled on (Err (Failed x r i f)) h = absurd h

@@ -1,6 +1,6 @@
 -- What a group's fault is to the call that met it. Assumes nothing.
 use Rattle.std.specs.Prelude.{Some, Ok, Err, Result}
-use Rattle.bus.specs.Numbers.{drive_of, block_of}
+use Rattle.bus.specs.Numbers.{address_of}
 use Rattle.group.specs.declared.fault.GroupFault.{GroupFault}
 use Rattle.group.specs.declared.fault.GroupFault.TheVariants.{OutOfRule, Short, Outside as Beyond, Whole, Lost, Failed}
 use Rattle.array.specs.declared.refusal.Fault.TheVariants.{OfRow, OfBlock}
@@ -17,7 +17,7 @@ blamed v x OutOfRule = plain Outside
 blamed v x Short = plain Outside
 blamed v x Beyond = plain Outside
 blamed v x Whole = plain Outside
-blamed v x (Lost g r i d a) = record { refusal = x; fault = Some (OfBlock v g r i (record { drive = d; block = a })) }
+blamed v x (Lost g r i a) = record { refusal = x; fault = Some (OfBlock v g r i a) }
 blamed v x (Failed g r i f) = plain Outside
 
 abbrev pub of_block : {U : Type 0} → VolumeBlock → Refusal → Result U GroupFault → Result U Refused
@@ -30,5 +30,5 @@ broken_by OutOfRule = plain Broken
 broken_by Short = plain Broken
 broken_by Beyond = plain Broken
 broken_by Whole = plain Broken
-broken_by (Lost g r i d a) = plain Broken
-broken_by (Failed g r i f) = record { refusal = Broken; fault = Some (OfRow g r i (record { drive = drive_of f; block = block_of f })) }
+broken_by (Lost g r i a) = plain Broken
+broken_by (Failed g r i f) = record { refusal = Broken; fault = Some (OfRow g r i (address_of f)) }

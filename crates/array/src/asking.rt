@@ -7,14 +7,13 @@ ghost use Rattle.array.specs.Configuration.{volume_at, volume_view, group_view};
 ghost use Rattle.array.specs.Finding.{SlotAt, FoundAt, PlacedAt};
 ghost use Rattle.array.specs.Places.{blocks_of, size_of, home_block, mapped};
 
-use crate::address::BlockAddress;
 use crate::refusal::{Refusal, Refused, ensure};
 use crate::scan::entry;
 use crate::slot::GroupSlot;
 use crate::spots::{count_blocks, find_spot};
 use crate::tables::Array;
 use crate::volume::{Volume, VolumeBlock};
-use bus::BLOCK;
+use bus::{BLOCK, BlockAddress};
 
 // A protected block, with its group.
 #[derive(Clone, Copy)]

@@ -6,7 +6,6 @@ ghost use Rattle.array.specs.Calls.{OnDrives, ReadsBlock, WritesBlock};
 ghost use Rattle.array.specs.Blaming.{blamed};
 ghost use Rattle.array.specs.Kinds.{method};
 
-use crate::address::BlockAddress;
 use crate::kind::MethodKind;
 use crate::refusal::{Fault, Refusal, Refused, ensure};
 use crate::slot::GroupSlot;
@@ -29,8 +28,7 @@ impl VolumeBlock {
             group,
             row,
             member,
-            drive,
-            block,
+            at,
         } = fault
         else {
             return Refusal::Outside.into();
@@ -42,7 +40,7 @@ impl VolumeBlock {
                 group,
                 row,
                 member,
-                at: BlockAddress { drive, block },
+                at,
             }),
         }
     }

@@ -1,7 +1,6 @@
 //! The tables of an array, the checks before any work, and the calls on groups, volume sets and their blocks.
 #![tactic(auto)]
 
-pub mod address;
 pub mod asking;
 pub mod blocks;
 pub mod emptiness;

@@ -8,7 +8,6 @@ ghost use Rattle.array.specs.Checks.{EachExtent, DifferentDrives, GroupFields};
 ghost use Rattle.array.specs.Calls.{MakesGroup};
 ghost use Rattle.array.specs.Planning.{Assigned, Built, Lying, Plans, Shared, FillsGroup, slot_view};
 
-use crate::address::BlockAddress;
 use crate::extents::{all_inside, all_on_bus, fields_fit, rows_in};
 use crate::kind::MethodKind;
 use crate::refusal::{Fault, Refusal, Refused, ensure};
@@ -84,10 +83,7 @@ fn broken(fault: GroupFault) -> Refused
             group,
             row,
             member,
-            at: BlockAddress {
-                drive: fault.drive(),
-                block: fault.block(),
-            },
+            at: fault.at(),
         }),
     }
 }

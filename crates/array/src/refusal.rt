@@ -4,9 +4,9 @@ ghost use Rattle.std.specs.Bool.{IsFalse};
 ghost use Rattle.array.specs.Refusals.{number_of, sense_of, plain};
 ghost use Rattle.array.specs.declared.refusal.Refusal.TheVariants.{Field};
 
-use crate::address::BlockAddress;
 use crate::kind::UnknownMethod;
 use crate::volume::VolumeBlock;
+use bus::BlockAddress;
 
 /// The check that failed. One number can have two senses.
 #[derive(Clone, Copy, PartialEq, Eq, Debug)]

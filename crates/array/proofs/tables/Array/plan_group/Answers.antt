@@ -28,7 +28,7 @@ lying : (g : _) (c : In_ok-ensure-4 g) → Lying (g.B.Bus.drives c.args.bus.now)
 lying g c = record { on_bus = c.all_on_bus.ensures.0 c.in_ok-ensure-2.ensures; inside = c.all_inside.ensures.0 c.in_ok-ensure-4.ensures }
 
 sound : (g : _) (c : In_ok-ensure-4 g) → EachExtent c.args.extents.now Sound
-sound g c = sound_extents (g.B.Bus.drives c.args.bus.now) c.in_ok-kind.kind c.args.depth c.args.extents.now (g.B.Bus.sound c.args.bus.now) (c.fields_fit.ensures.0 c.in_ok-ensure.ensures) (lying g c)
+sound g c = sound_extents (g.B.Bus.drives c.args.bus.now) c.in_ok-kind.kind c.args.depth c.args.extents.now (g.met.B.Bus.sound c.args.bus.now) (c.fields_fit.ensures.0 c.in_ok-ensure.ensures) (lying g c)
 
 pub build-requires : goal.build-requires
 build-requires g c = (c.fields_fit.ensures.0 c.in_ok-ensure.ensures, sound g (goal.at.build-requires g c).In_ok-ensure-4)
