@@ -12,6 +12,9 @@ use layout::parity::Parity;
 use layout::refusal::Refusal;
 use layout::unprotected::Unprotected;
 
+// Five functions of a group have one arm for each method. A trait with a method that is generic in the method of redundancy
+// would be no plainer: it wants a struct and an impl for each of the five, whose clauses are then members of the trait.
+
 /// How the check blocks of a group come from its user blocks.
 #[derive(Clone, Copy, PartialEq, Eq, Debug)]
 pub enum MethodKind {

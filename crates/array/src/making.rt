@@ -119,6 +119,9 @@ impl Array {
         Ok(slot)
     }
 
+    // The code stays a number, and the extents plain rows: what is wrong with them is refused here, in its turn among the
+    // checks. The four are no struct, since only the plan takes them too.
+
     /// Makes group `g` by the method with this code, at this depth, on these extents, and sets all their blocks to zeros.
     /// Where it is refused nothing is configured; where a drive broke, blocks of the extents may be zeros.
     pub fn make_group<B: Bus>(

@@ -69,6 +69,8 @@ pub struct Refused {
 }
 
 impl Refusal {
+    // The variants have no numbers of their own: two of them share one.
+
     /// The number of the check.
     pub fn number(self) -> u8
         ensures { result ≡ number_of self }

@@ -19,10 +19,12 @@ pub struct Run {
     pub count: usize,
 }
 
+// No heap here: room for the most runs, and `active` gives those that there are.
+
 /// One to four runs, joined in order, and whether writes are enabled.
 #[derive(Clone, Copy)]
 pub struct Volume {
-    pub(crate) runs: [Run; 4],
+    pub(crate) runs: [Run; MOST_RUNS],
     pub(crate) count: usize,
     pub(crate) writes: bool,
     ghost some: { 1 ≤ count },

@@ -9,8 +9,8 @@ use crate::refusal::{Refusal, Refused, ensure};
 use crate::scan::{
     are_counted, are_inside, are_separate, are_unassigned, have_groups, is_free, is_unused,
 };
-use crate::tables::Array;
-use crate::volume::{Run, Volume};
+use crate::tables::{Array, MOST_GROUPS, MOST_VOLUMES};
+use crate::volume::{MOST_RUNS, Run, Volume};
 
 // A volume set on these runs, writes enabled.
 fn volume_on(runs: &[Run]) -> Volume
@@ -21,7 +21,7 @@ fn volume_on(runs: &[Run]) -> Volume
         group: 0,
         first: 0,
         count: 0,
-    }; 4];
+    }; MOST_RUNS];
     list[..runs.len()].copy_from_slice(runs);
     Volume {
         runs: list,
@@ -45,8 +45,8 @@ impl Array {
         ensures { config result ≡ nothing }
     {
         Array {
-            groups: [None; 8],
-            volumes: [None; 16],
+            groups: [None; MOST_GROUPS],
+            volumes: [None; MOST_VOLUMES],
         }
     }
 
