@@ -1,43 +1,24 @@
--- The extents of the members of a group, and those of new groups beside them.
-use Rattle.std.proofs.Common.{◌≡◌, ℕ, ◌+◌, ◌<◌, ◌≤◌, List, length, get_or, Some, None, Option, sym, ap, subst, arith}
-use Rattle.std.proofs.lemmas.List.{length-take, get_or-take}
+-- Extents that share a block with a member of a group.
+use Rattle.std.proofs.Common.{◌≡◌, ℕ, ◌<◌, List, map, length, get_or, Bool, true, [], Some, None, Option, ◌↔◌, sym, refl, ap, subst, arith}
+use Rattle.std.proofs.lemmas.List.{length-map}
 use Rattle.layout.specs.declared.extent.ExtentRow.{ExtentRow}
-use Rattle.layout.specs.Extents.{Sound, Overlap}
-use Rattle.group.specs.declared.member.Member.{Member}
-use Rattle.group.specs.Group.{nobody, member}
-use Rattle.group.specs.Record.{members_of}
 use Rattle.array.specs.declared.slot.GroupSlot.{GroupSlot}
-use Rattle.array.specs.declared.volume.Volume.{Volume}
-use Rattle.array.specs.Configuration.{GroupConfig, HasMember, Unassigned, configuration, group_at, extent_at, group_view, is_some}
-use Rattle.array.proofs.Tabling.{configured_seen}
-use Rattle.array.proofs.Entering.{group_seen}
+use Rattle.array.specs.Configuration.{GroupConfig, configuration, group_at, group_view, is_some, mapped_option, no_group, or_else}
+use Rattle.array.specs.Planning.{Assigned, Shared, slot_view}
+use Rattle.array.proofs.Tabling.{entry_seen}
 
--- the extent of a member is one
-pub sound_member : (s : GroupSlot) (i : ℕ) → i < length (members_of s.group) → Sound (extent_at (group_view s) i)
-sound_member s i h =
-    let l : i < s.group.geometry.members = omega (arith, length-take s.group.geometry.members s.group.members) in
-    record {
-      some = s.group.geometry.some_rows;
-      ends =
-          subst (λ (m : Member). m.start + s.group.geometry.rows ≤ 65536) (sym (get_or-take s.group.geometry.members s.group.members i nobody l))
-          (s.group.ends i l);
-    }
+some_group : (x : Option GroupConfig) (i : ℕ) → i < length (or_else no_group x).members → is_some x ≡ true
+some_group None i h = absurd (omega arith)
+some_group (Some x) i h = refl
 
--- it is the row of its parts
-pub row_of_member : (s : GroupSlot) (ms : List Member) (rows i : ℕ) → ms ≡ members_of s.group → rows ≡ s.group.geometry.rows →
-    ◌≡◌ {A = ExtentRow} (record { drive = (member ms i).drive; start = (member ms i).start; count = rows }) (extent_at (group_view s) i)
-row_of_member s ms rows i p q = cc
-
--- an extent against the group h of the tables
-module _ (gs : List (Option GroupSlot)) (vs : List (Option Volume)) (h : ℕ) (s : GroupSlot) (e : ExtentRow) (is : get_or gs h None ≡ Some s) where
-  pub apart_here : ((i : ℕ) → i < length (group_view s).members → Overlap e (extent_at (group_view s) i) → ⊥) →
-      (i : ℕ) → HasMember (configuration gs vs) h i → Overlap e (extent_at (group_at (configuration gs vs) h) i) → ⊥
-  apart_here told i has o =
-      told i (subst (λ (v : GroupConfig). i < length v.members) (group_seen gs vs h s is) has.1)
-      (subst (λ (v : GroupConfig). Overlap e (extent_at v i)) (group_seen gs vs h s is) o)
-
-  pub shared_here : h < length gs → (i : ℕ) → i < length (group_view s).members → Overlap e (extent_at (group_view s) i) → Unassigned (configuration gs vs) e → ⊥
-  shared_here l i m o un =
-      un h i
-      (configured_seen group_view gs h (l, ap is_some is), subst (λ (v : GroupConfig). i < length v.members) (sym (group_seen gs vs h s is)) m)
-      (subst (λ (v : GroupConfig). Overlap e (extent_at v i)) (sym (group_seen gs vs h s is)) o)
+pub assigned : (gs : List (Option GroupSlot)) (e : ExtentRow) (b : Bool) → (b ≡ true) ↔ ((g : ℕ) × (g < length gs) × Shared e (slot_view (get_or gs g None))) → (b ≡ true) ↔ Assigned (configuration gs []) e
+assigned gs e b each = (
+  λ t.
+      let one = each.0 t in
+      let here : Shared e (group_at (configuration gs []) one.0) = subst (λ (v : GroupConfig). Shared e v) (seen one.0) one.2 in
+      (one.0, here.0, ((omega (arith, one.1, length-map gs (mapped_option group_view)), some_group (get_or (map (mapped_option group_view) gs) one.0 None) here.0 here.1), here.1), here.2),
+  λ one. each.1 (one.0, omega (arith, one.2.0.0, length-map gs (mapped_option group_view)), subst (λ (v : GroupConfig). Shared e v) (sym (seen one.0)) (one.1, one.2.1, one.3)),
+)
+  where
+    seen : (g : ℕ) → slot_view (get_or gs g None) ≡ group_at (configuration gs []) g
+    seen g = ap (or_else no_group) (sym (entry_seen group_view gs g (get_or gs g None) refl))

@@ -1,5 +1,5 @@
 -- A group built from extents.
-use Rattle.std.proofs.Common.{◌≡◌, ℕ, ◌<◌, ◌≤◌, List, map, length, take, Err, sym, ap, ◌∙◌, ⊎_elim, arith}
+use Rattle.std.proofs.Common.{◌≡◌, ℕ, ◌<◌, ◌≤◌, List, map, length, take, Ok, Err, Result, Some, None, Option, IsOk, refl, sym, ap, ◌∙◌, ⊎_elim, arith}
 use Rattle.std.proofs.lemmas.List.{get_or_past, get_or-take, get_or-map, length-map, length-take-le, ext_get_or}
 use Rattle.std.proofs.lemmas.Bool.{cases_lt}
 use Rattle.bus.specs.Drives as Drives
@@ -15,16 +15,24 @@ use Rattle.group.specs.Group.{nobody}
 use Rattle.group.specs.Filling.{no_extent, extent}
 use Rattle.group.specs.Making.{Fits, MadeTo, whole_member}
 use Rattle.group.specs.Record.{members_of}
+use Rattle.std.specs.Option.{ok_or}
 use Rattle.array.specs.declared.kind.MethodKind.{MethodKind}
+use Rattle.array.specs.declared.kind.UnknownMethod.{UnknownMethod}
 use Rattle.array.specs.declared.slot.GroupSlot.{GroupSlot}
 use Rattle.array.specs.Configuration.{rows_in}
 use Rattle.array.specs.Checks.{EachExtent, GroupFields}
 use Rattle.array.specs.Planning.{Built, Lying}
 
 -- what holds is not refused
-pub not_refused : {V : Type 0} (P Q : Type 0) (R : V → Type 0) (x : Refusal) → P → Q → AnsweredBoth P Q R (Err x) → ⊥
-not_refused P Q R OutOfRule p q h = h p
-not_refused P Q R Outside p q h = h.1 q
+pub answered : {V : Type 0} (P Q : Type 0) (R : V → Type 0) (r : Result V Refusal) → P → Q → AnsweredBoth P Q R r → IsOk r
+answered P Q R (Ok v) p q h = refl
+answered P Q R (Err OutOfRule) p q h = absurd (h p)
+answered P Q R (Err Outside) p q h = absurd (h.1 q)
+
+-- the method of a code
+pub kind_named : (o : Option MethodKind) (kind : MethodKind) (u : UnknownMethod) → Ok kind ≡ ok_or o u → o ≡ Some kind
+kind_named None kind u e = absurd (cc)
+kind_named (Some k) kind u e = cc
 
 -- sound extents that have rows have no more than a drive has blocks
 pub rows_few : (es : List ExtentRow) → 1 ≤ rows_in es → EachExtent es Sound → rows_in es ≤ 65536

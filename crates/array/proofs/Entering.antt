@@ -4,16 +4,11 @@ use Rattle.std.proofs.lemmas.List.{get_or-set_same, get_or-set_other}
 use Rattle.std.proofs.lemmas.Bool.{both_ways, cases_eq}
 use Rattle.layout.specs.Extents.{Covers}
 use Rattle.array.specs.declared.slot.GroupSlot.{GroupSlot}
-use Rattle.array.specs.declared.volume.Volume.{Volume}
-use Rattle.array.specs.Configuration.{GroupConfig, Configuration, Configured, Free, HasMember, group_at, group_view, is_some, or_else, no_group, with_group, configuration, extent_at, Unassigned}
+use Rattle.array.specs.Configuration.{GroupConfig, Configuration, Configured, Free, HasMember, group_at, is_some, or_else, no_group, with_group, extent_at, Unassigned}
 use Rattle.array.specs.Places.{size_of}
 use Rattle.array.specs.Tables.{ExtentsApart, SomeRun, run_of, RunsFilled, RunsGrouped, RunsInside, RunsApart, number_in, Numbered}
-use Rattle.array.proofs.Tabling.{entry_seen, configured_other, configured_still}
+use Rattle.array.proofs.Tabling.{configured_other, configured_still}
 use Rattle.array.proofs.Keeping.{Kept}
-
--- a group of the table is one of the configuration
-pub group_seen : (gs : List (Option GroupSlot)) (vs : List (Option Volume)) (n : ℕ) (s : GroupSlot) → get_or gs n None ≡ Some s → group_at (configuration gs vs) n ≡ group_view s
-group_seen gs vs n s is = ap (or_else no_group) (entry_seen group_view gs n (Some s) is)
 
 -- group g, which was free, becomes x
 module _ (c : Configuration) (g : ℕ) (free : Free c.groups g) (x : GroupConfig) where

@@ -12,3 +12,5 @@ pub mod Placing
 pub mod Reading
 pub mod Soundness
 pub mod Vacancy
+pub mod Chains
+pub mod Checking

@@ -1,12 +1,9 @@
 -- The places of a group's blocks, as the group's view has them.
-use Rattle.std.proofs.Common.{◌≡◌, ℕ, ◌+◌, ◌/◌, ◌≤◌, sym, ap, ◌∙◌, arith}
+use Rattle.std.proofs.Common.{◌≡◌, ℕ, ◌/◌, sym, ap, ◌∙◌}
 use Rattle.layout.specs.declared.geometry.Place.{Place}
 use Rattle.layout.specs.Places as layout
 use Rattle.layout.specs.Places.{PlaceOf, protected}
-use Rattle.group.specs.declared.member.Member.{Member}
-use Rattle.group.specs.Group.{member}
-use Rattle.group.specs.Record.{members_of}
-use Rattle.group.proofs.Recording.{length_members, member_is}
+use Rattle.group.proofs.Recording.{length_members}
 use Rattle.array.specs.declared.slot.GroupSlot.{GroupSlot}
 use Rattle.array.specs.Kinds.{method}
 use Rattle.array.specs.Configuration.{group_view}
@@ -31,7 +28,3 @@ module _ (s : GroupSlot) where
 
     pub strip_is : a.strip ≡ row_of (group_view s) q / s.group.geometry.depth
     strip_is = at.strip_of ∙ ap (λ r. r / s.group.geometry.depth) row_is
-
-    -- a member's block of the row is inside the largest drive
-    pub block_fits : (member (members_of s.group) a.member).start + a.row ≤ 65536
-    block_fits = omega (arith, s.group.ends a.member at.member_inside, at.row_inside, ap (λ (m : Member). m.start) (member_is s.group s.group.eight a.member at.member_inside))

@@ -1,5 +1,5 @@
 -- From what a group answers to what the array says of a block of a volume set.
-use Rattle.std.proofs.Common.{◌≡◌, ℕ, ◌+◌, ◌/◌, ◌<◌, ◌≤◌, true, List, length, Ok, Err, Result, sym, refl, ap, ◌∙◌, subst, inl, inr, ⊎_elim, arith}
+use Rattle.std.proofs.Common.{◌≡◌, ℕ, ◌+◌, ◌/◌, ◌<◌, ◌≤◌, true, List, length, Ok, Err, Result, MatchResult, sym, refl, ap, ◌∙◌, subst, inl, inr, ⊎_elim, arith}
 use Rattle.bus.specs.Drives.{Drive, at, size}
 use Rattle.layout.specs.Methods.{capped}
 use Rattle.layout.specs.declared.geometry.Place.{Place}
@@ -13,17 +13,19 @@ use Rattle.group.specs.Group as rows
 use Rattle.group.specs.Group.{member, Frame, Ours, NoBlock}
 use Rattle.group.specs.Record.{members_of, Lies, Unready, Names, ReadOk, ReadLost, Reads, WriteOk, WriteLost, Writes}
 use Rattle.group.proofs.Recording.{member_is}
+use Rattle.array.specs.declared.refusal.Refusal.{Refusal}
 use Rattle.array.specs.declared.refusal.Refusal.TheVariants.{LostReading, LostWriting}
 use Rattle.array.specs.declared.refusal.Refused.{Refused}
 use Rattle.array.specs.declared.slot.GroupSlot.{GroupSlot}
 use Rattle.array.specs.declared.volume.Volume.{Volume}
+use Rattle.array.specs.declared.volume.VolumeBlock.{VolumeBlock}
 use Rattle.array.specs.Kinds.{method}
 use Rattle.array.specs.Configuration.{GroupConfig, VolumeConfig, Configuration, group_at, volume_at, group_view, volume_view}
 use Rattle.array.specs.Places.{spot_of, row_of, home_of, slot_of, LostRow, LostBlock}
 use Rattle.array.specs.Checks.{AllHold, block_checks}
 use Rattle.array.specs.Calls.{OnDrives, NamesMember, Gave, ReadsBlock, Took, Left, WritesBlock}
 use Rattle.array.specs.Finding.{FoundAt}
-use Rattle.array.specs.Blaming.{of_block}
+use Rattle.array.specs.Blaming.{blamed, of_block}
 use Rattle.array.proofs.Soundness.{method_sound}
 use Rattle.array.proofs.Placing.{long, size_is, home_is, row_is, slot_is, strip_is}
 
@@ -54,6 +56,11 @@ module _ (s : GroupSlot) (q : ℕ) where
         gone = ap (λ (x : Member). rows.missing n r x) is ∙ ap (λ x. rows.missing n x (member s.group.members i)) w.row ∙ w.gone;
       }
 
+-- what a group's answer becomes
+pub answer_seen : {U : Type 0} (v : VolumeBlock) (x : Refusal) (r : Result U GroupFault) (z : Result U Refused) → MatchResult r (λ u. z ≡ Ok u) (λ e. z ≡ Err (blamed v x e)) → z ≡ of_block v x r
+answer_seen v x (Ok u) z e = e
+answer_seen v x (Err f) z e = e
+
 -- block b of volume set v is protected block q of the group s
 module _ (m : List Drive) (c : Configuration) (v b : ℕ) (s : GroupSlot) (q : ℕ) (found : FoundAt c v b s q) where
   pub over : (P : GroupConfig → ℕ → Type 0) → P (group_view s) q → P (group_at c (spot_of c v b).group) (spot_of c v b).block
@@ -80,7 +87,7 @@ module _ (m : List Drive) (c : Configuration) (v b : ℕ) (s : GroupSlot) (q : �
       let p = place_of (method s.kind) (method_sound s.kind) g.members g.depth g.rows g.some_members g.few_members g.some_depth g.whole_strips q (k.width g.members) (capped (layout.home_of (method s.kind) g.members g.depth q)) lt refl refl in
       u.2 _ (record { enough = s.enough; buffer = h; inside = lt; place = p; lies = lies on (layout.row_of (method s.kind) g.members g.depth q) p.row_inside })
   never_unready on len h Whole u = u
-  never_unready on len h (Lost a r i d x) u = u
+  never_unready on len h (Lost a r i x) u = u
   never_unready on len h (Failed a r i f) u = u
 
 module _ (m n : List Drive) (c : Configuration) (v b : ℕ) (s : GroupSlot) (q : ℕ) (found : FoundAt c v b s q) where
@@ -88,7 +95,7 @@ module _ (m n : List Drive) (c : Configuration) (v b : ℕ) (s : GroupSlot) (q :
     read_ok : ReadOk (method s.kind) m n s.group q was is (place_in (group_view s) q) → Gave m n (group_view s) q was is
     read_ok h = record { frame = h.served.frame; gives = h.gives }
 
-    reads : {U : Type 0} → AllHold (block_checks c v b (length was)) → OnDrives m c → (r : Result U GroupFault) → Reads (method s.kind) m n s.group q was is r → ReadsBlock m n c v b was is (of_block v b LostReading r)
+    reads : {U : Type 0} → AllHold (block_checks c v b (length was)) → OnDrives m c → (r : Result U GroupFault) → Reads (method s.kind) m n s.group q was is r → ReadsBlock m n c v b was is (of_block (record { volume = v; block = b }) LostReading r)
     reads (has, (fits, (below, u))) on (Ok w) (a, h) =
         let o : ReadOk (method s.kind) m n s.group q was is (place_in (group_view s) q) =
         subst (λ x. ReadOk (method s.kind) m n s.group q was is x) (same_place s q a h.served.ready.place) h in (
@@ -99,9 +106,9 @@ module _ (m n : List Drive) (c : Configuration) (v b : ℕ) (s : GroupSlot) (q :
     reads (has, (fits, (below, u))) on (Err Short) h = absurd (never_unready m c v b s q found on (length was) fits Short h.0)
     reads (has, (fits, (below, u))) on (Err Beyond) h = absurd (never_unready m c v b s q found on (length was) fits Beyond h.0)
     reads (has, (fits, (below, u))) on (Err Whole) h = absurd h
-    reads (has, (fits, (below, u))) on (Err (Lost x r i d y)) (a, h) =
-        let o : ReadLost (method s.kind) m n s.group q was is x r i d y (place_in (group_view s) q) =
-        subst (λ z. ReadLost (method s.kind) m n s.group q was is x r i d y z) (same_place s q a h.served.ready.place) h in (
+    reads (has, (fits, (below, u))) on (Err (Lost x r i y)) (a, h) =
+        let o : ReadLost (method s.kind) m n s.group q was is x r i y.drive y.block (place_in (group_view s) q) =
+        subst (λ z. ReadLost (method s.kind) m n s.group q was is x r i y.drive y.block z) (same_place s q a h.served.ready.place) h in (
           inr (has, inr (fits, inr (below, inl ((λ held. held (over m c v b s q found (λ g z. LostBlock (λ d. (at n d).broken) g z) o.lost)), refl)))),
           o.buffer,
           refl,
@@ -111,7 +118,7 @@ module _ (m n : List Drive) (c : Configuration) (v b : ℕ) (s : GroupSlot) (q :
               block = refl;
               group = o.names.group ∙ found.slot.number;
               row = over m c v b s q found (λ g z. r ≡ row_of g z) o.names.row;
-              member_of = over m c v b s q found (λ g z. NamesMember n g r i d y) (names_member s q n (row_of (group_view s) q) x r i d y o.names refl);
+              member_of = over m c v b s q found (λ g z. NamesMember n g r i y.drive y.block) (names_member s q n (row_of (group_view s) q) x r i y.drive y.block o.names refl);
             },
             over m c v b s q found (λ g z. Frame m n (Ours g.members) NoBlock) o.served.frame,
           ),
@@ -119,7 +126,7 @@ module _ (m n : List Drive) (c : Configuration) (v b : ℕ) (s : GroupSlot) (q :
     reads (has, (fits, (below, u))) on (Err (Failed x r i f)) h = absurd h
 
     -- z is what the array answers where the group answers r
-    pub reads_block : {U : Type 0} → AllHold (block_checks c v b (length was)) → OnDrives m c → (r : Result U GroupFault) (z : Result U Refused) → Reads (method s.kind) m n s.group q was is r → z ≡ of_block v b LostReading r → ReadsBlock m n c v b was is z
+    pub reads_block : {U : Type 0} → AllHold (block_checks c v b (length was)) → OnDrives m c → (r : Result U GroupFault) (z : Result U Refused) → Reads (method s.kind) m n s.group q was is r → z ≡ of_block (record { volume = v; block = b }) LostReading r → ReadsBlock m n c v b was is z
     reads_block all on r z h e = subst (λ x. ReadsBlock m n c v b was is x) (sym e) (reads all on r h)
 
   module _ (bytes : List ℕ) where
@@ -137,7 +144,7 @@ module _ (m n : List Drive) (c : Configuration) (v b : ℕ) (s : GroupSlot) (q :
         (LostRow (λ d. (at m d).broken) (group_view s) (row_of (group_view s) q) → ⊥) × (LostBlock (λ d. (at n d).broken) (group_view s) q → ⊥) → ⊥
     refused x r i d y h (whole, there) = ⊎_elim (λ e. whole e.0) (λ e. there e.1) h.lost
 
-    writes : {U : Type 0} → AllHold (block_checks c v b (length bytes)) → (volume_at c v).writes ≡ true → OnDrives m c → (r : Result U GroupFault) → Writes (method s.kind) m n s.group q bytes r → WritesBlock m n c v b bytes (of_block v b LostWriting r)
+    writes : {U : Type 0} → AllHold (block_checks c v b (length bytes)) → (volume_at c v).writes ≡ true → OnDrives m c → (r : Result U GroupFault) → Writes (method s.kind) m n s.group q bytes r → WritesBlock m n c v b bytes (of_block (record { volume = v; block = b }) LostWriting r)
     writes (has, (fits, (below, u))) enabled on (Ok w) (a, h) =
         let o : WriteOk (method s.kind) m n s.group q bytes (place_in (group_view s) q) =
         subst (λ x. WriteOk (method s.kind) m n s.group q bytes x) (same_place s q a h.served.ready.place) h in (
@@ -148,9 +155,9 @@ module _ (m n : List Drive) (c : Configuration) (v b : ℕ) (s : GroupSlot) (q :
     writes (has, (fits, (below, u))) enabled on (Err Short) h = absurd (never_unready m c v b s q found on (length bytes) fits Short h.0)
     writes (has, (fits, (below, u))) enabled on (Err Beyond) h = absurd (never_unready m c v b s q found on (length bytes) fits Beyond h.0)
     writes (has, (fits, (below, u))) enabled on (Err Whole) h = absurd h
-    writes (has, (fits, (below, u))) enabled on (Err (Lost x r i d y)) (a, h) =
-        let o : WriteLost (method s.kind) m n s.group q bytes x r i d y (place_in (group_view s) q) =
-        subst (λ z. WriteLost (method s.kind) m n s.group q bytes x r i d y z) (same_place s q a h.served.ready.place) h in (
+    writes (has, (fits, (below, u))) enabled on (Err (Lost x r i y)) (a, h) =
+        let o : WriteLost (method s.kind) m n s.group q bytes x r i y.drive y.block (place_in (group_view s) q) =
+        subst (λ z. WriteLost (method s.kind) m n s.group q bytes x r i y.drive y.block z) (same_place s q a h.served.ready.place) h in (
           inr (
             has,
             inr (
@@ -160,7 +167,7 @@ module _ (m n : List Drive) (c : Configuration) (v b : ℕ) (s : GroupSlot) (q :
                 inr (
                   enabled,
                   inl (
-                    over m c v b s q found (λ g z. (LostRow (λ d. (at m d).broken) g (row_of g z) → ⊥) × (LostBlock (λ d. (at n d).broken) g z → ⊥) → ⊥) (refused x r i d y o),
+                    over m c v b s q found (λ g z. (LostRow (λ d. (at m d).broken) g (row_of g z) → ⊥) × (LostBlock (λ d. (at n d).broken) g z → ⊥) → ⊥) (refused x r i y.drive y.block o),
                     refl,
                   ),
                 ),
@@ -174,13 +181,13 @@ module _ (m n : List Drive) (c : Configuration) (v b : ℕ) (s : GroupSlot) (q :
               block = refl;
               group = o.names.group ∙ found.slot.number;
               row = over m c v b s q found (λ g z. r ≡ row_of g z) o.names.row;
-              member_of = over m c v b s q found (λ g z. NamesMember n g r i d y) (names_member s q n (row_of (group_view s) q) x r i d y o.names refl);
+              member_of = over m c v b s q found (λ g z. NamesMember n g r i y.drive y.block) (names_member s q n (row_of (group_view s) q) x r i y.drive y.block o.names refl);
             },
-            over m c v b s q found (λ g z. Left m n g z) (write_left x r i d y o),
+            over m c v b s q found (λ g z. Left m n g z) (write_left x r i y.drive y.block o),
           ),
         )
     writes (has, (fits, (below, u))) enabled on (Err (Failed x r i f)) h = absurd h
 
-    pub writes_block : {U : Type 0} → AllHold (block_checks c v b (length bytes)) → (x : Volume) → volume_view x ≡ volume_at c v → x.writes ≡ true → OnDrives m c → (r : Result U GroupFault) (z : Result U Refused) → Writes (method s.kind) m n s.group q bytes r → z ≡ of_block v b LostWriting r → WritesBlock m n c v b bytes z
+    pub writes_block : {U : Type 0} → AllHold (block_checks c v b (length bytes)) → (x : Volume) → volume_view x ≡ volume_at c v → x.writes ≡ true → OnDrives m c → (r : Result U GroupFault) (z : Result U Refused) → Writes (method s.kind) m n s.group q bytes r → z ≡ of_block (record { volume = v; block = b }) LostWriting r → WritesBlock m n c v b bytes z
     writes_block all x view enabled on r z h e =
         subst (λ y. WritesBlock m n c v b bytes y) (sym e) (writes all (sym (ap (λ (y : VolumeConfig). y.writes) view) ∙ enabled) on r h)

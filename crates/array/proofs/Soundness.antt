@@ -52,7 +52,7 @@ sound_group s =
           subst (λ v. v.mark ≤ g.geometry.rows) (sym (member_is g eight i l)) (g.marked i l);
     }
 
-pub method_sound : (k : MethodKind) → Sound (method k).least (method k).width (method k).cycle (method k).home (method k).check (method k).row (method k).tolerance
+pub method_sound : (k : MethodKind) → Sound (method k).LEAST (method k).width (method k).cycle (method k).home (method k).check (method k).row (method k).tolerance
 method_sound NoRedundancy = none_sound
 method_sound Copy = copy_sound
 method_sound Xor = xor_sound

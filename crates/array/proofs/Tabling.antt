@@ -1,25 +1,21 @@
 -- Tables of what is configured: one entry read, and one entry set.
-use Rattle.std.proofs.Common.{◌≡◌, ℕ, zero, suc, ◌<◌, Bool, true, false, List, [], ◌∷◌, map, length, get_or, set, Some, None, MatchBool, Option, sym, refl, ap, ◌∙◌, arith}
+use Rattle.std.proofs.Common.{◌≡◌, ℕ, ◌<◌, List, map, length, get_or, set, Some, None, Option, sym, refl, ap, ◌∙◌, arith}
+use Rattle.std.proofs.Math.ListN.{get_or-map}
 use Rattle.std.proofs.lemmas.List.{length-map, length-set, get_or-set_same, get_or-set_other}
 use Rattle.std.proofs.lemmas.Bool.{false≢true}
 use Rattle.array.specs.Configuration.{Configured, Free, is_some, mapped_option}
 
 module _ {A B : Type 0} (f : A → B) where
   -- an entry of a table that is seen by f
-  pub at_mapped : (xs : List (Option A)) (n : ℕ) → get_or (map (mapped_option f) xs) n None ≡ mapped_option f (get_or xs n None)
-  at_mapped [] n = refl
-  at_mapped (x ∷ xs) zero = refl
-  at_mapped (x ∷ xs) (suc n) = at_mapped xs n
-
   pub entry_seen : (xs : List (Option A)) (n : ℕ) (x : Option A) → get_or xs n None ≡ x → get_or (map (mapped_option f) xs) n None ≡ mapped_option f x
-  entry_seen xs n x e = at_mapped xs n ∙ ap (mapped_option f) e
+  entry_seen xs n x e = get_or-map (mapped_option f) xs n None ∙ ap (mapped_option f) e
 
   pub same_some : (x : Option A) → is_some (mapped_option f x) ≡ is_some x
   same_some None = refl
   same_some (Some x) = refl
 
   some_at : (xs : List (Option A)) (n : ℕ) → is_some (get_or (map (mapped_option f) xs) n None) ≡ is_some (get_or xs n None)
-  some_at xs n = ap is_some (at_mapped xs n) ∙ same_some (get_or xs n None)
+  some_at xs n = ap is_some (get_or-map (mapped_option f) xs n None) ∙ same_some (get_or xs n None)
 
   pub configured_seen : (xs : List (Option A)) (n : ℕ) → Configured xs n → Configured (map (mapped_option f) xs) n
   configured_seen xs n h = (omega (arith, h.0, length-map xs (mapped_option f)), some_at xs n ∙ h.1)
@@ -27,27 +23,13 @@ module _ {A B : Type 0} (f : A → B) where
   pub configured_behind : (xs : List (Option A)) (n : ℕ) → Configured (map (mapped_option f) xs) n → Configured xs n
   configured_behind xs n h = (omega (arith, h.0, length-map xs (mapped_option f)), sym (some_at xs n) ∙ h.1)
 
-  pub none_seen : (xs : List (Option A)) (n : ℕ) → get_or xs n None ≡ None → Configured (map (mapped_option f) xs) n → ⊥
-  none_seen xs n e h = false≢true (ap is_some (sym e) ∙ (configured_behind xs n h).1)
-
-  pub configured_when : (xs : List (Option A)) (n : ℕ) (b : Bool) → MatchBool b (Configured xs n) (Configured xs n → ⊥) → MatchBool b (Configured (map (mapped_option f) xs) n) (Configured (map (mapped_option f) xs) n → ⊥)
-  configured_when xs n true h = configured_seen xs n h
-  configured_when xs n false h = λ y. h (configured_behind xs n y)
-
-  free_seen : (xs : List (Option A)) (n : ℕ) → Free xs n → Free (map (mapped_option f) xs) n
+  pub free_seen : (xs : List (Option A)) (n : ℕ) → Free xs n → Free (map (mapped_option f) xs) n
   free_seen xs n h = (omega (arith, h.0, length-map xs (mapped_option f)), some_at xs n ∙ h.1)
 
   free_behind : (xs : List (Option A)) (n : ℕ) → Free (map (mapped_option f) xs) n → Free xs n
   free_behind xs n h = (omega (arith, h.0, length-map xs (mapped_option f)), sym (some_at xs n) ∙ h.1)
 
-  pub free_when : (xs : List (Option A)) (n : ℕ) (b : Bool) → MatchBool b (Free xs n) (Free xs n → ⊥) → MatchBool b (Free (map (mapped_option f) xs) n) (Free (map (mapped_option f) xs) n → ⊥)
-  free_when xs n true h = free_seen xs n h
-  free_when xs n false h = λ y. h (free_behind xs n y)
-
   -- which is no number past a table of m entries
-  pub configured_below : (xs : List (Option A)) (n m : ℕ) → length xs ≡ m → Configured (map (mapped_option f) xs) n → n < m
-  configured_below xs n m e h = omega (arith, (configured_behind xs n h).0)
-
   pub free_below : (xs : List (Option A)) (n m : ℕ) → length xs ≡ m → Free (map (mapped_option f) xs) n → n < m
   free_below xs n m e h = omega (arith, (free_behind xs n h).0)
 

@@ -1,12 +1,18 @@
 -- Runs joined in order: how many blocks they have, and where each block is.
-use Rattle.std.proofs.Common.{◌≡◌, ℕ, suc, ◌+◌, ◌-◌, ◌*◌, ◌<◌, ◌≤◌, Bool, true, false, cond, ltb, List, [], ◌∷◌, length, drop, sym, refl, ◌∙◌, arith}
+use Rattle.std.proofs.Common.{◌≡◌, ℕ, suc, ◌+◌, ◌-◌, ◌*◌, ◌<◌, ◌≤◌, Bool, true, false, cond, ltb, List, [], ◌∷◌, length, drop, sym, refl, ap, ◌∙◌, sum_by, arith}
 use Rattle.std.proofs.lemmas.List.{at_drop_more}
+use Rattle.std.proofs.lemmas.List.Sums.{sum_by-cons}
 use Rattle.std.proofs.lemmas.Bool.{ltb-true, ltb-false, cond_below, cond_above}
 use Rattle.array.specs.declared.volume.Run.{Run}
 use Rattle.array.specs.Configuration.{no_run, run}
 use Rattle.array.specs.Checks.{EachRun}
 use Rattle.array.specs.Places.{Spot, spot_in, blocks_in}
 use Rattle.array.specs.Finding.{ShortRun}
+
+-- the blocks of runs, by the library's sum
+pub blocks_sum : (rs : List Run) → sum_by (λ r. r.count) rs ≡ blocks_in rs
+blocks_sum [] = refl
+blocks_sum (r ∷ rs) = sum_by-cons (λ v. v.count) r rs ∙ ap (λ n. r.count + n) (blocks_sum rs)
 
 -- one run further
 module _ (rs : List Run) (i : ℕ) (h : i < length rs) where

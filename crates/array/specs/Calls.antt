@@ -49,8 +49,8 @@ pub record NamesExtent (n : List Drive) (g : ℕ) (es : List ExtentRow) (h r i d
 -- not filled: no drive was tried, or one is broken, and nothing else changed but blocks of the extents
 abbrev pub Unfilled : List Drive → List Drive → ℕ → List ExtentRow → Option Fault → Type 0
 Unfilled m n g es None = n ≡ m
-Unfilled m n g es (Some (OfRow h r i d b)) = NamesExtent n g es h r i d b × Frame m n (SomeDrive es) (SomeBlock es)
-Unfilled m n g es (Some (OfBlock v a h r i d b)) = ⊥
+Unfilled m n g es (Some (OfRow h r i p)) = NamesExtent n g es h r i p.drive p.block × Frame m n (SomeDrive es) (SomeBlock es)
+Unfilled m n g es (Some (OfBlock o h r i p)) = ⊥
 
 abbrev pub MakesGroup : {U : Type 0} → List Drive → List Drive → Configuration → Configuration → ℕ → ℕ → ℕ → List ExtentRow → Result U Refused → Type 0
 MakesGroup m n c z g code k es (Ok u) =
@@ -87,9 +87,9 @@ pub record Gave (m n : List Drive) (g : GroupConfig) (q : ℕ) (was is : List �
 -- a refused one: no drive was tried, or a missing member is named and nothing changed but drives of the group that broke
 abbrev pub NotGiven : List Drive → List Drive → Configuration → ℕ → ℕ → Option Fault → Type 0
 NotGiven m n c v a None = n ≡ m
-NotGiven m n c v a (Some (OfRow h r i d b)) = ⊥
-NotGiven m n c v a (Some (OfBlock w x h r i d b)) =
-    NamesBlock n c v a w x h r i d b × Frame m n (Ours (group_at c (spot_of c v a).group).members) NoBlock
+NotGiven m n c v a (Some (OfRow h r i p)) = ⊥
+NotGiven m n c v a (Some (OfBlock o h r i p)) =
+    NamesBlock n c v a o.volume o.block h r i p.drive p.block × Frame m n (Ours (group_at c (spot_of c v a).group).members) NoBlock
 
 abbrev pub ReadsBlock : {U : Type 0} → List Drive → List Drive → Configuration → ℕ → ℕ → List ℕ → List ℕ → Result U Refused → Type 0
 ReadsBlock m n c v b was is (Ok u) =
@@ -111,9 +111,9 @@ pub record Left (m n : List Drive) (g : GroupConfig) (q : ℕ) : Type 0 where
 
 abbrev pub NotTaken : List Drive → List Drive → Configuration → ℕ → ℕ → Option Fault → Type 0
 NotTaken m n c v a None = n ≡ m
-NotTaken m n c v a (Some (OfRow h r i d b)) = ⊥
-NotTaken m n c v a (Some (OfBlock w x h r i d b)) =
-    NamesBlock n c v a w x h r i d b × Left m n (group_at c (spot_of c v a).group) (spot_of c v a).block
+NotTaken m n c v a (Some (OfRow h r i p)) = ⊥
+NotTaken m n c v a (Some (OfBlock o h r i p)) =
+    NamesBlock n c v a o.volume o.block h r i p.drive p.block × Left m n (group_at c (spot_of c v a).group) (spot_of c v a).block
 
 abbrev pub WritesBlock : {U : Type 0} → List Drive → List Drive → Configuration → ℕ → ℕ → List ℕ → Result U Refused → Type 0
 WritesBlock m n c v b bytes (Ok u) =

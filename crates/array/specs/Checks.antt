@@ -85,6 +85,10 @@ group_checks s g code k es =
     ∷ Broken unless (EachExtent es (Unbroken s))
     ∷ []
 
+-- asking for a group
+abbrev pub group_number_checks : Configuration → ℕ → List Check
+group_number_checks c g = NotConfigured unless (Configured c.groups g) ∷ []
+
 -- deleting a group: no run lies in it
 abbrev pub delete_group_checks : Configuration → ℕ → List Check
 delete_group_checks c g =

@@ -2,7 +2,7 @@
 use Rattle.std.specs.Prelude.{◌≡◌, ℕ, ◌+◌, ◌<◌, ◌≤◌, List, length, Some, None, Option, slice_index_or}
 use Rattle.array.specs.declared.volume.Run.{Run}
 use Rattle.array.specs.declared.spots.GroupBlock.{GroupBlock}
-use Rattle.array.specs.declared.asking.DrivePlace.{DrivePlace}
+use Rattle.bus.specs.declared.address.BlockAddress.{BlockAddress}
 use Rattle.array.specs.declared.slot.GroupSlot.{GroupSlot}
 use Rattle.array.specs.Configuration.{Configuration, Configured, group_at, group_view}
 use Rattle.array.specs.Places.{DriveBlock, spot_in, spot_of, blocks_in, size_of}
@@ -35,5 +35,5 @@ pub record FoundAt (c : Configuration) (v b : ℕ) (s : GroupSlot) (q : ℕ) : T
   pub inside : q < size_of (group_view s)
 
 -- the drive block that is this one
-abbrev pub PlacedAt : DriveBlock → DrivePlace → Type 0
+abbrev pub PlacedAt : DriveBlock → BlockAddress → Type 0
 PlacedAt d p = (p.drive ≡ d.drive) × (p.block ≡ d.at)

@@ -9,6 +9,7 @@ use Rattle.layout.specs.contracts.mirror.MirrorMethod.TheImpl as mirror
 use Rattle.layout.specs.contracts.parity.ParityMethod.TheImpl as parity
 use Rattle.array.specs.declared.kind.MethodKind.{MethodKind}
 use Rattle.array.specs.declared.kind.MethodKind.TheVariants.{NoRedundancy, Copy, Xor}
+use Rattle.array.specs.declared.kind.UnknownMethod.{UnknownMethod}
 
 -- the type that implements the method
 abbrev pub by : MethodKind → Type 0
@@ -30,3 +31,7 @@ method_code Xor = 2
 
 abbrev pub method_of : ℕ → Option MethodKind
 method_of code = cond (code == 0) (Some NoRedundancy) (cond (code == 1) (Some Copy) (cond (code == 2) (Some Xor) None))
+
+-- a code of no method
+abbrev pub unknown : ℕ → UnknownMethod
+unknown code = record { 0 = code }

@@ -1,8 +1,8 @@
 -- The steps of making group g, by method code at depth k on the extents es: m are the drives before and n after, c is the
 -- configuration. Assumes nothing.
-use Rattle.std.specs.Prelude.{◌≡◌, ℕ, ◌+◌, ◌<◌, ◌≤◌, false, List, length, Some, None, Ok, Err, Result}
+use Rattle.std.specs.Prelude.{◌≡◌, ℕ, ◌+◌, ◌<◌, ◌≤◌, false, List, length, Some, None, Option, Ok, Err, Result}
 use Rattle.bus.specs.Drives.{Drive, at, size}
-use Rattle.layout.specs.Extents.{Sound}
+use Rattle.layout.specs.Extents.{Sound, Overlap}
 use Rattle.layout.specs.declared.extent.ExtentRow.{ExtentRow}
 use Rattle.group.specs.Filling.{Filled}
 use Rattle.array.specs.declared.kind.MethodKind.{MethodKind}
@@ -10,9 +10,20 @@ use Rattle.array.specs.declared.refusal.Refusal.TheVariants.{Broken}
 use Rattle.array.specs.declared.refusal.Refused.{Refused}
 use Rattle.array.specs.declared.slot.GroupSlot.{GroupSlot}
 use Rattle.array.specs.Kinds.{method_of}
-use Rattle.array.specs.Configuration.{Configuration, Free, Unassigned, group_view, new_group}
+use Rattle.array.specs.Configuration.{GroupConfig, Configuration, Free, HasMember, Unassigned, extent_at, group_at, group_view, mapped_option, new_group, no_group, or_else}
 use Rattle.array.specs.Checks.{scene, FirstNo, EachExtent, FieldsFor, DifferentDrives, group_checks}
 use Rattle.array.specs.Calls.{Blamed, Unfilled}
+
+-- an entry of the table of groups as a group, of no members where there is none
+abbrev pub slot_view : Option GroupSlot → GroupConfig
+slot_view x = or_else no_group (mapped_option group_view x)
+
+-- the extent shares a block with a member of the group; of a group
+abbrev pub Shared : ExtentRow → GroupConfig → Type 0
+Shared e g = (i : ℕ) × (i < length g.members) × Overlap e (extent_at g i)
+
+abbrev pub Assigned : Configuration → ExtentRow → Type 0
+Assigned c e = (g : ℕ) × (i : ℕ) × HasMember c g i × Overlap e (extent_at (group_at c g) i)
 
 -- every extent lies on its drive
 pub record Lying (m : List Drive) (es : List ExtentRow) : Type 0 where

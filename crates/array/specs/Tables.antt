@@ -72,7 +72,7 @@ Numbered gs = (n : ℕ) → Configured gs n → number_in (slice_index_or gs n N
 -- What holds of every group that is configured, whatever the bus: it is as it may be made, its members are on different
 -- drives, its extents end at or below block 65,536, and no mark is beyond its rows.
 pub record SoundGroup (g : GroupConfig) : Type 0 where
-  pub least : (method g.kind).least ≤ length g.members
+  pub least : (method g.kind).LEAST ≤ length g.members
   pub most : length g.members ≤ 8
   pub depth : 1 ≤ g.depth
   pub some_rows : 1 ≤ g.rows

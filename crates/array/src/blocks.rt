@@ -1,60 +1,47 @@
 //! Reading and writing blocks of volume sets.
-ghost use Rattle.std.specs.Prelude.{◌≡◌, ℕ, Result as Res};
+ghost use Rattle.std.specs.Prelude.{◌≡◌};
 ghost use Rattle.group.specs.Record.{Reads, Writes};
-ghost use Rattle.array.specs.declared.refusal.Refusal.{Refusal as TheRefusal};
-ghost use Rattle.array.specs.declared.refusal.Refused.{Refused as TheRefused};
 ghost use Rattle.array.specs.Arrays.{config};
 ghost use Rattle.array.specs.Calls.{OnDrives, ReadsBlock, WritesBlock};
-ghost use Rattle.array.specs.Blaming.{of_block};
+ghost use Rattle.array.specs.Blaming.{blamed};
 ghost use Rattle.array.specs.Kinds.{method};
 
 use crate::kind::MethodKind;
-use crate::refusal::{Fault, Refusal, Refused};
+use crate::refusal::{Fault, Refusal, Refused, ensure};
 use crate::slot::GroupSlot;
 use crate::tables::Array;
+use crate::volume::VolumeBlock;
 use bus::Bus;
 use group::fault::GroupFault;
 use layout::mirror::Mirror;
 use layout::parity::Parity;
 use layout::unprotected::Unprotected;
 
-// A group's answer, seen from the block of a volume set that was asked for: `slot.read(..).of_block(v, b, lost)?`.
-trait OfBlock<T>: Sized {
-    ghost seen: { Self → ℕ → ℕ → TheRefusal → Res T TheRefused };
-
-    // A lost row is refused by `lost`. Of the other faults only `Outside` is possible, where an extent does not lie on
-    // its drive: the array is used with another bus than the one that it was configured on.
-    fn of_block(self, volume: usize, block: usize, lost: Refusal) -> Result<T, Refused>
-        ensures { result ≡ seen self volume block lost };
-}
-
-impl<T: Drop> OfBlock<T> for Result<T, GroupFault> {
-    ghost seen = { λ s v b x. of_block v b x s };
-
-    fn of_block(self, volume: usize, block: usize, lost: Refusal) -> Result<T, Refused> {
-        match self {
-            Ok(v) => Ok(v),
-            Err(
-                GroupFault::Lost {
-                    group,
-                    row,
-                    member,
-                    drive,
-                    block: at,
-                },
-            ) => Err(Refused {
-                refusal: lost,
-                fault: Some(Fault::OfBlock {
-                    volume,
-                    block,
-                    group,
-                    row,
-                    member,
-                    drive,
-                    at,
-                }),
+impl VolumeBlock {
+    // A group's fault, seen from this block. A lost row is refused by `lost`. Of the other faults only `Outside` is
+    // possible, where an extent does not lie on its drive: the array is used with another bus than the one that it was
+    // configured on.
+    fn blame(self, lost: Refusal, fault: GroupFault) -> Refused
+        ensures { result ≡ blamed self lost fault }
+    {
+        let GroupFault::Lost {
+            group,
+            row,
+            member,
+            at,
+        } = fault
+        else {
+            return Refusal::Outside.into();
+        };
+        Refused {
+            refusal: lost,
+            fault: Some(Fault::OfBlock {
+                of: self,
+                group,
+                row,
+                member,
+                at,
             }),
-            Err(_) => Err(Refusal::Outside.alone()),
         }
     }
 }
@@ -84,41 +71,27 @@ impl GroupSlot {
 }
 
 impl Array {
-    /// Reads block `b` of volume set `v` into the first 512 bytes of `buf`, on a bus on which the configured extents lie.
-    pub fn read<B: Bus>(
-        &self,
-        bus: &mut B,
-        v: usize,
-        b: usize,
-        buf: &mut [u8],
-    ) -> Result<(), Refused>
-        ensures { OnDrives (B.Bus.drives bus.old) (config self.now) → ReadsBlock (B.Bus.drives bus.old) (B.Bus.drives bus.new) (config self.now) v b buf.old buf.new result }
+    /// Reads a block of a volume set into the first 512 bytes of `buf`, on a bus on which the configured extents lie.
+    pub fn read<B: Bus>(&self, bus: &mut B, at: VolumeBlock, buf: &mut [u8]) -> Result<(), Refused>
+        ensures { OnDrives (B.Bus.drives bus.old) (config self.now) → ReadsBlock (B.Bus.drives bus.old) (B.Bus.drives bus.new) (config self.now) at.volume at.block buf.old buf.new result }
     {
-        let found = self.admit(v, b, buf.len())?;
+        let found = self.admit(at, buf.len())?;
         found
             .slot
             .read(bus, found.block, buf)
-            .of_block(v, b, Refusal::LostReading)
+            .map_err(|fault| at.blame(Refusal::LostReading, fault))
     }
 
-    /// Writes the first 512 of `bytes` to block `b` of volume set `v`, on a bus on which the configured extents lie.
-    pub fn write<B: Bus>(
-        &self,
-        bus: &mut B,
-        v: usize,
-        b: usize,
-        bytes: &[u8],
-    ) -> Result<(), Refused>
-        ensures { OnDrives (B.Bus.drives bus.old) (config self.now) → WritesBlock (B.Bus.drives bus.old) (B.Bus.drives bus.new) (config self.now) v b bytes.now result }
+    /// Writes the first 512 of `bytes` to a block of a volume set, on a bus on which the configured extents lie.
+    pub fn write<B: Bus>(&self, bus: &mut B, at: VolumeBlock, bytes: &[u8]) -> Result<(), Refused>
+        ensures { OnDrives (B.Bus.drives bus.old) (config self.now) → WritesBlock (B.Bus.drives bus.old) (B.Bus.drives bus.new) (config self.now) at.volume at.block bytes.now result }
     {
-        let volume = self.volume(v)?;
-        let found = self.admit(v, b, bytes.len())?;
-        if !volume.writes {
-            return Err(Refusal::WritesDisabled.alone());
-        }
+        let volume = self.volume(at.volume)?;
+        let found = self.admit(at, bytes.len())?;
+        ensure(volume.writes, Refusal::WritesDisabled)?;
         found
             .slot
             .write(bus, found.block, bytes)
-            .of_block(v, b, Refusal::LostWriting)
+            .map_err(|fault| at.blame(Refusal::LostWriting, fault))
     }
 }

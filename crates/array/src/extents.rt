@@ -1,10 +1,11 @@
 //! The checks of the extents of a new group.
-ghost use Rattle.std.specs.Prelude.{◌≡◌, ◌+◌, ◌<◌, ◌≤◌, length, MatchBool};
+ghost use Rattle.std.specs.Prelude.{◌≡◌, ◌+◌, ◌<◌, ◌≤◌, length, IsTrue, ◌↔◌};
 ghost use Rattle.bus.specs.Drives.{size};
 ghost use Rattle.array.specs.Configuration.{rows_in};
 ghost use Rattle.array.specs.Checks.{EachExtent, GroupFields};
 
 use crate::kind::MethodKind;
+use crate::scan::ends_by;
 use bus::Bus;
 use layout::extent::ExtentRow;
 use layout::refusal::Refusal;
@@ -13,70 +14,32 @@ use layout::refusal::Refusal;
 pub(crate) fn rows_in(extents: &[ExtentRow]) -> usize
     ensures { result ≡ rows_in extents.now }
 {
-    if extents.len() == 0 {
-        return 0;
-    }
-    extents[0].count
+    extents.first().map_or(0, |e| e.count)
 }
 
-// Whether every extent has `rows` blocks.
-fn equal_counts(extents: &[ExtentRow], rows: usize) -> bool
-    ensures { MatchBool result (EachExtent extents.now (λ e. e.count ≡ rows)) (EachExtent extents.now (λ e. e.count ≡ rows) → ⊥) }
-{
-    for i in 0..extents.len() {
-        if extents[i].count != rows {
-            return false;
-        }
-    }
-    true
-}
-
-// Whether members, depth and rows are right for the method, and all extents are of one length.
+// Whether members, depth and rows are right for the method, and all extents are of one length. That an extent would be
+// too long is not for here.
 pub(crate) fn fields_fit(kind: MethodKind, depth: usize, extents: &[ExtentRow]) -> bool
-    ensures { MatchBool result (GroupFields kind depth extents.now) (GroupFields kind depth extents.now → ⊥) }
+    ensures { IsTrue result ↔ GroupFields kind depth extents.now }
 {
     let rows = rows_in(extents);
-    match kind.geometry(extents.len(), depth, rows) {
-        Ok(_) => equal_counts(extents, rows),
-        Err(refusal) => match refusal {
-            Refusal::OutOfRule => false,
-            Refusal::Outside => equal_counts(extents, rows),
-        },
-    }
+    let geometry = kind.geometry(extents.len(), depth, rows);
+    !matches!(geometry, Err(Refusal::OutOfRule)) && extents.iter().all(|e| e.count == rows)
 }
 
 // Whether every drive is on the bus.
 pub(crate) fn all_on_bus<B: Bus>(bus: &B, extents: &[ExtentRow]) -> bool
-    ensures { MatchBool result (EachExtent extents.now (λ e. e.drive < length (B.Bus.drives bus.now))) (EachExtent extents.now (λ e. e.drive < length (B.Bus.drives bus.now)) → ⊥) }
+    ensures { IsTrue result ↔ EachExtent extents.now (λ e. e.drive < length (B.Bus.drives bus.now)) }
 {
     let count = bus.count();
-    for i in 0..extents.len() {
-        if extents[i].drive >= count {
-            return false;
-        }
-    }
-    true
-}
-
-// Whether the extent ends no later than its drive.
-fn lies_inside<B: Bus>(bus: &B, e: ExtentRow) -> bool
-    ensures { MatchBool result (e.start + e.count ≤ size (B.Bus.drives bus.now) e.drive) (e.start + e.count ≤ size (B.Bus.drives bus.now) e.drive → ⊥) }
-{
-    let capacity = bus.capacity(e.drive);
-    if e.start > capacity {
-        return false;
-    }
-    e.count <= capacity - e.start
+    extents.iter().all(|e| e.drive < count)
 }
 
 // Whether every extent lies on its drive.
 pub(crate) fn all_inside<B: Bus>(bus: &B, extents: &[ExtentRow]) -> bool
-    ensures { MatchBool result (EachExtent extents.now (λ e. e.start + e.count ≤ size (B.Bus.drives bus.now) e.drive)) (EachExtent extents.now (λ e. e.start + e.count ≤ size (B.Bus.drives bus.now) e.drive) → ⊥) }
+    ensures { IsTrue result ↔ EachExtent extents.now (λ e. e.start + e.count ≤ size (B.Bus.drives bus.now) e.drive) }
 {
-    for i in 0..extents.len() {
-        if !lies_inside(bus, extents[i]) {
-            return false;
-        }
-    }
-    true
+    extents
+        .iter()
+        .all(|e| ends_by(e.start, e.count, bus.capacity(e.drive)))
 }

@@ -3,13 +3,17 @@ ghost use Rattle.std.specs.Prelude.{◌≡◌, ◌<◌, ◌≤◌};
 ghost use Rattle.layout.specs.Places.{Fits, PlaceOf, protected};
 ghost use Rattle.layout.specs.Refusals.{Answered, AnsweredBoth};
 ghost use Rattle.layout.specs.declared.refusal.Refusal.TheVariants.{Outside};
-ghost use Rattle.array.specs.Kinds.{method, method_of, method_code};
+ghost use Rattle.std.specs.Option.{ok_or};
+ghost use Rattle.array.specs.Kinds.{method, method_of, method_code, unknown};
 
 use layout::geometry::{Geometry, Place};
 use layout::mirror::Mirror;
 use layout::parity::Parity;
 use layout::refusal::Refusal;
 use layout::unprotected::Unprotected;
+
+// Five functions of a group have one arm for each method. A trait with a method that is generic in the method of redundancy
+// would be no plainer: it wants a struct and an impl for each of the five, whose clauses are then members of the trait.
 
 /// How the check blocks of a group come from its user blocks.
 #[derive(Clone, Copy, PartialEq, Eq, Debug)]
@@ -22,30 +26,40 @@ pub enum MethodKind {
     Xor,
 }
 
-impl MethodKind {
-    /// The method with a code of the standard's table; none for a code that is not supported.
-    pub fn from_code(code: usize) -> Option<MethodKind>
-        ensures { result ≡ method_of code }
-    {
+/// A code of the standard's table, or of none, whose method is not supported.
+#[derive(Clone, Copy, PartialEq, Eq, Debug)]
+pub struct UnknownMethod(pub usize);
+
+// By the code of the standard's table.
+impl TryFrom<usize> for MethodKind {
+    type Error = UnknownMethod;
+
+    ghost try_from_gives = { λ code r. r ≡ ok_or (method_of code) (unknown code) };
+
+    fn try_from(code: usize) -> Result<MethodKind, UnknownMethod> {
         match code {
-            0 => Some(MethodKind::NoRedundancy),
-            1 => Some(MethodKind::Copy),
-            2 => Some(MethodKind::Xor),
-            _ => None,
+            0 => Ok(MethodKind::NoRedundancy),
+            1 => Ok(MethodKind::Copy),
+            2 => Ok(MethodKind::Xor),
+            _ => Err(UnknownMethod(code)),
         }
     }
+}
 
-    /// The code of the standard's table.
-    pub fn code(self) -> usize
-        ensures { result ≡ method_code self }
-    {
-        match self {
+// The code of the standard's table.
+impl From<MethodKind> for usize {
+    ghost from_gives = { λ kind code. code ≡ method_code kind };
+
+    fn from(kind: MethodKind) -> usize {
+        match kind {
             MethodKind::NoRedundancy => 0,
             MethodKind::Copy => 1,
             MethodKind::Xor => 2,
         }
     }
+}
 
+impl MethodKind {
     /// The geometry of a group by this method; refused as `Geometry::new` does.
     pub fn geometry(self, members: usize, depth: usize, rows: usize) -> Result<Geometry, Refusal>
         ensures { AnsweredBoth (Fits (method self) members depth rows) (rows ≤ 65536) (λ g. (g.members ≡ members) × (g.depth ≡ depth) × (g.rows ≡ rows)) result }

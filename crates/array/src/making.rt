@@ -1,15 +1,17 @@
 //! Making a group.
-ghost use Rattle.std.specs.Prelude.{◌≡◌, ℕ, ◌<◌, length, MatchBool, MatchOption};
+ghost use Rattle.std.specs.Prelude.{◌≡◌, ℕ, ◌<◌, length, IsTrue, ◌↔◌, [], MatchOption};
 ghost use Rattle.layout.specs.Extents.{Overlap, Sound};
 ghost use Rattle.array.specs.Arrays.{config};
-ghost use Rattle.array.specs.Configuration.{Unassigned, extent_at, group_view};
+ghost use Rattle.array.specs.Blaming.{broken_by};
+ghost use Rattle.array.specs.Configuration.{Unassigned, configuration, extent_at, group_view};
 ghost use Rattle.array.specs.Checks.{EachExtent, DifferentDrives, GroupFields};
 ghost use Rattle.array.specs.Calls.{MakesGroup};
-ghost use Rattle.array.specs.Planning.{Built, Lying, Plans, FillsGroup};
+ghost use Rattle.array.specs.Planning.{Assigned, Built, Lying, Plans, Shared, FillsGroup, slot_view};
 
 use crate::extents::{all_inside, all_on_bus, fields_fit, rows_in};
 use crate::kind::MethodKind;
-use crate::refusal::{Fault, Refusal, Refused};
+use crate::refusal::{Fault, Refusal, Refused, ensure};
+use crate::scan::is_free;
 use crate::slot::GroupSlot;
 use crate::tables::Array;
 use bus::Bus;
@@ -18,29 +20,36 @@ use group::fill::fill;
 use group::record::Group;
 use layout::extent::{Extent, ExtentRow};
 
-// Whether a member of the group shares a block with the extent.
-fn shares(slot: &GroupSlot, e: &Extent) -> bool
-    ensures { MatchBool result ((i : ℕ) × (i < length (group_view slot.now).members) × Overlap e.now.row (extent_at (group_view slot.now) i)) ((i : ℕ) → i < length (group_view slot.now).members → Overlap e.now.row (extent_at (group_view slot.now) i) → ⊥) }
+// Whether a member of the group, if there is one, shares a block with the extent.
+fn shares(entry: &Option<GroupSlot>, e: &Extent) -> bool
+    ensures { IsTrue result ↔ Shared e.now.row (slot_view entry.now) }
 {
-    let rows = slot.group.geometry().rows();
-    let members = slot.group.active();
-    for i in 0..members.len() {
-        let m = members[i];
-        let row = ExtentRow {
+    let Some(slot) = entry else {
+        return false;
+    };
+    let count = slot.group.geometry().rows();
+    slot.group.active().iter().any(|m| {
+        let held = Extent::new(ExtentRow {
             drive: m.drive,
             start: m.start,
-            count: rows,
-        };
-        match Extent::new(row) {
-            Some(held) => {
-                if e.overlaps(&held) {
-                    return true;
-                }
-            }
-            None => unreachable(),
-        }
-    }
-    false
+            count,
+        });
+        held.is_some_and(|held| e.overlaps(&held))
+    })
+}
+
+// Whether the extent shares a block with a member of a group.
+fn is_assigned(groups: &[Option<GroupSlot>], e: &Extent) -> bool
+    ensures { IsTrue result ↔ Assigned (configuration groups.now []) e.now.row }
+{
+    groups.iter().any(|entry| shares(entry, e))
+}
+
+// Whether no extent, as far as the rows are extents, shares a block with a member of a group.
+fn are_unassigned(groups: &[Option<GroupSlot>], extents: &[ExtentRow]) -> bool
+    ensures { IsTrue result ↔ EachExtent extents.now (λ e. Sound e → Unassigned (configuration groups.now []) e) }
+{
+    !extents.iter().any(|row| Extent::new(*row).is_some_and(|e| is_assigned(groups, &e)))
 }
 
 // The group of these extents with its method; none where two are on one drive.
@@ -48,13 +57,34 @@ fn build(kind: MethodKind, g: usize, depth: usize, extents: &[ExtentRow]) -> Opt
     requires { (GroupFields kind depth extents.now) × (EachExtent extents.now Sound) }
     ensures { MatchOption result (DifferentDrives extents.now → ⊥) (λ s. Built kind g depth extents.now s) }
 {
-    let geometry = match kind.geometry(extents.len(), depth, rows_in(extents)) {
-        Ok(geometry) => geometry,
-        Err(_) => unreachable(),
+    let geometry = kind
+        .geometry(extents.len(), depth, rows_in(extents))
+        .unwrap();
+    let group = Group::new(g, geometry, extents)?;
+    Some(GroupSlot { kind, group })
+}
+
+// A fill's fault. Of these only `Failed` is possible where the extents lie on the bus.
+fn broken(fault: GroupFault) -> Refused
+    ensures { result ≡ broken_by fault }
+{
+    let GroupFault::Failed {
+        group,
+        row,
+        member,
+        fault,
+    } = fault
+    else {
+        return Refusal::Broken.into();
     };
-    match Group::new(g, geometry, extents) {
-        Some(group) => Some(GroupSlot { kind, group }),
-        None => None,
+    Refused {
+        refusal: Refusal::Broken,
+        fault: Some(Fault::OfRow {
+            group,
+            row,
+            member,
+            at: fault.at(),
+        }),
     }
 }
 
@@ -64,72 +94,10 @@ fn fill_group<B: Bus>(bus: &mut B, g: usize, extents: &[ExtentRow]) -> Result<()
     requires { (EachExtent extents.now Sound) × (Lying (B.Bus.drives bus.old) extents.now) }
     ensures { FillsGroup (B.Bus.drives bus.old) (B.Bus.drives bus.new) g extents.now result }
 {
-    match fill(bus, g, extents) {
-        Ok(()) => Ok(()),
-        Err(refusal) => match refusal {
-            GroupFault::Failed {
-                group,
-                row,
-                member,
-                fault,
-            } => Err(Refused {
-                refusal: Refusal::Broken,
-                fault: Some(Fault::OfRow {
-                    group,
-                    row,
-                    member,
-                    drive: fault.drive(),
-                    at: fault.block(),
-                }),
-            }),
-            _ => unreachable(),
-        },
-    }
+    fill(bus, g, extents).map_err(broken)
 }
 
 impl Array {
-    // The groups by number; none where a number is free.
-    fn groups(&self) -> &[Option<GroupSlot>]
-        ensures { result.now ≡ self.now.groups }
-    {
-        &self.groups
-    }
-
-    // Whether the extent shares no block with a member of a group.
-    fn is_unassigned(&self, e: &Extent) -> bool
-        ensures { MatchBool result (Unassigned (config self.now) e.now.row) (Unassigned (config self.now) e.now.row → ⊥) }
-    {
-        for entry in self.groups() {
-            match entry {
-                Some(slot) => {
-                    if shares(slot, e) {
-                        return false;
-                    }
-                }
-                None => {}
-            }
-        }
-        true
-    }
-
-    // Whether no extent shares a block with a member of a group.
-    fn all_unassigned(&self, extents: &[ExtentRow]) -> bool
-        requires { EachExtent extents.now Sound }
-        ensures { MatchBool result (EachExtent extents.now (Unassigned (config self.now))) (EachExtent extents.now (Unassigned (config self.now)) → ⊥) }
-    {
-        for i in 0..extents.len() {
-            match Extent::new(extents[i]) {
-                Some(e) => {
-                    if !self.is_unassigned(&e) {
-                        return false;
-                    }
-                }
-                None => unreachable(),
-            }
-        }
-        true
-    }
-
     // The group to be entered, once all checks before the fill hold.
     fn plan_group<B: Bus>(
         &self,
@@ -141,30 +109,18 @@ impl Array {
     ) -> Result<GroupSlot, Refused>
         ensures { Plans (B.Bus.drives bus.now) (config self.now) g code depth extents.now result }
     {
-        let kind = match MethodKind::from_code(code) {
-            Some(kind) => kind,
-            None => return Err(Refusal::Field.alone()),
-        };
-        if !fields_fit(kind, depth, extents) {
-            return Err(Refusal::Field.alone());
-        }
-        if !all_on_bus(bus, extents) {
-            return Err(Refusal::NoDrive.alone());
-        }
-        if !self.is_free_group(g) {
-            return Err(Refusal::NotConfigured.alone());
-        }
-        if !all_inside(bus, extents) {
-            return Err(Refusal::Outside.alone());
-        }
-        if !self.all_unassigned(extents) {
-            return Err(Refusal::Conflict.alone());
-        }
-        match build(kind, g, depth, extents) {
-            Some(slot) => Ok(slot),
-            None => Err(Refusal::Conflict.alone()),
-        }
+        let kind = MethodKind::try_from(code)?;
+        ensure(fields_fit(kind, depth, extents), Refusal::Field)?;
+        ensure(all_on_bus(bus, extents), Refusal::NoDrive)?;
+        ensure(is_free(&self.groups, g), Refusal::NotConfigured)?;
+        ensure(all_inside(bus, extents), Refusal::Outside)?;
+        ensure(are_unassigned(&self.groups, extents), Refusal::Conflict)?;
+        let slot = build(kind, g, depth, extents).ok_or(Refusal::Conflict)?;
+        Ok(slot)
     }
+
+    // The code stays a number, and the extents plain rows: what is wrong with them is refused here, in its turn among the
+    // checks. The four are no struct, since only the plan takes them too.
 
     /// Makes group `g` by the method with this code, at this depth, on these extents, and sets all their blocks to zeros.
     /// Where it is refused nothing is configured; where a drive broke, blocks of the extents may be zeros.

@@ -1,6 +1,12 @@
 //! Why a call is refused.
-ghost use Rattle.std.specs.Prelude.{◌≡◌};
+ghost use Rattle.std.specs.Prelude.{◌≡◌, IsTrue, MatchResult};
+ghost use Rattle.std.specs.Bool.{IsFalse};
 ghost use Rattle.array.specs.Refusals.{number_of, sense_of, plain};
+ghost use Rattle.array.specs.declared.refusal.Refusal.TheVariants.{Field};
+
+use crate::kind::UnknownMethod;
+use crate::volume::VolumeBlock;
+use bus::BlockAddress;
 
 /// The check that failed. One number can have two senses.
 #[derive(Clone, Copy, PartialEq, Eq, Debug)]
@@ -38,23 +44,20 @@ pub struct Sense {
 /// The drive that a refusal names, with all that is known of it.
 #[derive(Clone, Copy, PartialEq, Eq, Debug)]
 pub enum Fault {
-    /// The block `at` of the drive, which is the member's block of the row.
+    /// The drive, and its block which is the member's block of the row.
     OfRow {
         group: usize,
         row: usize,
         member: usize,
-        drive: usize,
-        at: usize,
+        at: BlockAddress,
     },
     /// The same, met on the way to a block of a volume set.
     OfBlock {
-        volume: usize,
-        block: usize,
+        of: VolumeBlock,
         group: usize,
         row: usize,
         member: usize,
-        drive: usize,
-        at: usize,
+        at: BlockAddress,
     },
 }
 
@@ -66,6 +69,8 @@ pub struct Refused {
 }
 
 impl Refusal {
+    // The variants have no numbers of their own: two of them share one.
+
     /// The number of the check.
     pub fn number(self) -> u8
         ensures { result ≡ number_of self }
@@ -79,8 +84,7 @@ impl Refusal {
             Refusal::Conflict => 8,
             Refusal::Broken => 9,
             Refusal::WritesDisabled => 10,
-            Refusal::LostReading => 11,
-            Refusal::LostWriting => 11,
+            Refusal::LostReading | Refusal::LostWriting => 11,
         }
     }
 
@@ -89,13 +93,11 @@ impl Refusal {
         ensures { result ≡ sense_of self }
     {
         let (key, code) = match self {
-            Refusal::Field => (0x05, 0x24),
+            Refusal::Field | Refusal::ShortBuffer => (0x05, 0x24),
             Refusal::NoDrive => (0x05, 0x25),
             Refusal::NotConfigured => (0x05, 0x68),
-            Refusal::ShortBuffer => (0x05, 0x24),
             Refusal::Outside => (0x05, 0x21),
-            Refusal::Conflict => return None,
-            Refusal::Broken => return None,
+            Refusal::Conflict | Refusal::Broken => return None,
             Refusal::WritesDisabled => (0x07, 0x27),
             Refusal::LostReading => (0x03, 0x11),
             Refusal::LostWriting => (0x03, 0x0c),
@@ -106,14 +108,32 @@ impl Refusal {
             qualifier: 0,
         })
     }
+}
 
-    /// The refusal with no drive to blame.
-    pub(crate) fn alone(self) -> Refused
-        ensures { result ≡ plain self }
-    {
+// With no drive to blame.
+impl From<Refusal> for Refused {
+    ghost from_gives = { λ x y. y ≡ plain x };
+
+    fn from(refusal: Refusal) -> Refused {
         Refused {
-            refusal: self,
+            refusal,
             fault: None,
         }
     }
+}
+
+// A method is a number of the call.
+impl From<UnknownMethod> for Refused {
+    ghost from_gives = { λ _ y. y ≡ plain Field };
+
+    fn from(_: UnknownMethod) -> Refused {
+        Refusal::Field.into()
+    }
+}
+
+// Refused by `refusal`, with no drive to blame, unless the check holds.
+pub(crate) fn ensure(holds: bool, refusal: Refusal) -> Result<(), Refused>
+    ensures { MatchResult result (λ _. IsTrue holds) (λ x. IsFalse holds × (x ≡ plain refusal)) }
+{
+    if holds { Ok(()) } else { Err(refusal.into()) }
 }

@@ -10,5 +10,5 @@ use group::record::Group;
 pub struct GroupSlot {
     pub(crate) kind: MethodKind,
     pub(crate) group: Group,
-    ghost enough: { (method kind).least ≤ group.geometry.members },
+    ghost enough: { (method kind).LEAST ≤ group.geometry.members },
 }

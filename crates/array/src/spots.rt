@@ -1,5 +1,5 @@
 //! The runs of a volume set: how many blocks they have, and which protected block each of these is.
-ghost use Rattle.std.specs.Prelude.{◌≡◌, ◌+◌, ◌<◌, ◌≤◌, MatchOption};
+ghost use Rattle.std.specs.Prelude.{◌≡◌, ◌+◌, ◌<◌, ◌≤◌, sum_by, MatchOption};
 ghost use Rattle.array.specs.Checks.{EachRun};
 ghost use Rattle.array.specs.Places.{blocks_in};
 ghost use Rattle.array.specs.Finding.{SpotAt, ShortRun};
@@ -15,14 +15,10 @@ pub(crate) struct GroupBlock {
 
 // How many blocks the runs have together.
 pub(crate) fn count_blocks(runs: &[Run]) -> usize
-    requires { blocks_in runs.now ≤ 2097152 }
-    ensures { result ≡ blocks_in runs.now }
+    requires { sum_by (λ r. r.count) runs.now ≤ 2097152 }
+    ensures { result ≡ sum_by (λ r. r.count) runs.now }
 {
-    let mut sum: usize = 0;
-    for run in runs {
-        sum += run.count;
-    }
-    sum
+    runs.iter().map(|run| run.count).sum()
 }
 
 // The protected block that is block `b` of the runs joined in order; none past their end.

@@ -12,11 +12,13 @@ pub const MOST_GROUPS: usize = 8;
 /// The most volume sets of an array.
 pub const MOST_VOLUMES: usize = 16;
 
+// Not one struct for both tables: a generic struct has no array of a type parameter. `scan::entry` looks a number up in either.
+
 /// What is configured: up to 8 groups and 16 volume sets. What holds of the tables whatever the bus stands in the type.
 #[derive(Clone, Copy)]
 pub struct Array {
-    pub(crate) groups: [Option<GroupSlot>; 8],
-    pub(crate) volumes: [Option<Volume>; 16],
+    pub(crate) groups: [Option<GroupSlot>; MOST_GROUPS],
+    pub(crate) volumes: [Option<Volume>; MOST_VOLUMES],
     ghost eight: { length groups ≡ 8 },
     ghost sixteen: { length volumes ≡ 16 },
     ghost numbered: { Numbered groups },

@@ -5,10 +5,12 @@ ghost use Rattle.array.specs.Calls.{Asked, Configures};
 ghost use Rattle.array.specs.Checks.{delete_group_checks, volume_checks, delete_volume_checks, control_checks};
 ghost use Rattle.array.specs.Configuration.{nothing, with_group, with_volume, new_volume, with_writes, controlled, mapped_option, volume_view};
 
-use crate::refusal::{Refusal, Refused};
-use crate::scan::{are_counted, are_inside, are_separate, are_unassigned, is_unused};
-use crate::tables::{Array, MOST_VOLUMES};
-use crate::volume::{Run, Volume};
+use crate::refusal::{Refusal, Refused, ensure};
+use crate::scan::{
+    are_counted, are_inside, are_separate, are_unassigned, have_groups, is_free, is_unused,
+};
+use crate::tables::{Array, MOST_GROUPS, MOST_VOLUMES};
+use crate::volume::{MOST_RUNS, Run, Volume};
 
 // A volume set on these runs, writes enabled.
 fn volume_on(runs: &[Run]) -> Volume
@@ -19,10 +21,8 @@ fn volume_on(runs: &[Run]) -> Volume
         group: 0,
         first: 0,
         count: 0,
-    }; 4];
-    for i in 0..runs.len() {
-        list[i] = runs[i];
-    }
+    }; MOST_RUNS];
+    list[..runs.len()].copy_from_slice(runs);
     Volume {
         runs: list,
         count: runs.len(),
@@ -34,13 +34,9 @@ fn volume_on(runs: &[Run]) -> Volume
 fn with_control(volume: Option<Volume>, on: bool) -> Option<Volume>
     ensures { mapped_option volume_view result ≡ mapped_option (with_writes on) (mapped_option volume_view volume) }
 {
-    match volume {
-        Some(mut changed) => {
-            changed.writes = on;
-            Some(changed)
-        }
-        None => None,
-    }
+    let mut volume = volume?;
+    volume.writes = on;
+    Some(volume)
 }
 
 impl Array {
@@ -49,8 +45,8 @@ impl Array {
         ensures { config result ≡ nothing }
     {
         Array {
-            groups: [None; 8],
-            volumes: [None; 16],
+            groups: [None; MOST_GROUPS],
+            volumes: [None; MOST_VOLUMES],
         }
     }
 
@@ -58,12 +54,8 @@ impl Array {
     pub fn delete_group(&mut self, g: usize) -> Result<(), Refused>
         ensures { Configures (delete_group_checks (config self.old) g) (config self.old) (config self.new) (with_group (config self.old) g None) result }
     {
-        if !self.has_group(g) {
-            return Err(Refusal::NotConfigured.alone());
-        }
-        if !is_unused(&self.volumes, g) {
-            return Err(Refusal::Conflict.alone());
-        }
+        self.slot(g)?;
+        ensure(is_unused(&self.volumes, g), Refusal::Conflict)?;
         self.groups[g] = None;
         Ok(())
     }
@@ -72,25 +64,12 @@ impl Array {
     fn check_volume(&self, v: usize, runs: &[Run]) -> Result<(), Refused>
         ensures { Asked (volume_checks (config self.now) v runs.now) (λ _. v < 16) result }
     {
-        if !are_counted(runs) {
-            return Err(Refusal::Field.alone());
-        }
-        if !self.has_groups(runs) {
-            return Err(Refusal::NotConfigured.alone());
-        }
-        if !self.is_free_volume(v) {
-            return Err(Refusal::NotConfigured.alone());
-        }
-        if !are_inside(&self.groups, runs) {
-            return Err(Refusal::Outside.alone());
-        }
-        if !are_unassigned(&self.volumes, runs) {
-            return Err(Refusal::Conflict.alone());
-        }
-        if !are_separate(runs) {
-            return Err(Refusal::Conflict.alone());
-        }
-        Ok(())
+        ensure(are_counted(runs), Refusal::Field)?;
+        ensure(have_groups(&self.groups, runs), Refusal::NotConfigured)?;
+        ensure(is_free(&self.volumes, v), Refusal::NotConfigured)?;
+        ensure(are_inside(&self.groups, runs), Refusal::Outside)?;
+        ensure(are_unassigned(&self.volumes, runs), Refusal::Conflict)?;
+        ensure(are_separate(runs), Refusal::Conflict)
     }
 
     /// Makes volume set `v` on these runs, joined in order, with writes enabled.
@@ -106,9 +85,7 @@ impl Array {
     pub fn delete_volume(&mut self, v: usize) -> Result<(), Refused>
         ensures { Configures (delete_volume_checks (config self.old) v) (config self.old) (config self.new) (with_volume (config self.old) v None) result }
     {
-        if !self.has_volume(v) {
-            return Err(Refusal::NotConfigured.alone());
-        }
+        self.volume(v)?;
         self.volumes[v] = None;
         Ok(())
     }
@@ -125,27 +102,19 @@ impl Array {
     fn control_all(&mut self, on: bool)
         ensures { config self.new ≡ controlled (config self.old) None on }
     {
-        for v in 0..MOST_VOLUMES {
-            self.control(v, on);
-        }
+        self.volumes = self.volumes.map(|volume| with_control(volume, on));
     }
 
     /// Enables or disables the writes of volume set `v`, or of all where none is named.
     pub fn write_control(&mut self, v: Option<usize>, on: bool) -> Result<(), Refused>
         ensures { Configures (control_checks (config self.old) v) (config self.old) (config self.new) (controlled (config self.old) v on) result }
     {
-        match v {
-            Some(one) => {
-                if !self.has_volume(one) {
-                    return Err(Refusal::NotConfigured.alone());
-                }
-                self.control(one, on);
-                Ok(())
-            }
-            None => {
-                self.control_all(on);
-                Ok(())
-            }
+        if let Some(one) = v {
+            self.volume(one)?;
+            self.control(one, on);
+        } else {
+            self.control_all(on);
         }
+        Ok(())
     }
 }

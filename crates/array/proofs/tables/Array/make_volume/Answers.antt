@@ -1,16 +1,9 @@
-use Rattle.std.proofs.Common.{Some, refl, ap, ◌∙◌}
-use Rattle.std.proofs.lemmas.Result.{err_from_is_err_and}
+use Rattle.std.proofs.Common.{Some, ap, ◌∙◌}
 use Rattle.std.proofs.lemmas.List.{length-set}
 use Rattle.array.specs.Arrays.{config}
 use Rattle.array.specs.Configuration.{VolumeConfig, with_volume, new_volume}
 use Rattle.array.proofs.Keeping.{kept_of, volume_set, volume_made, fields_by}
 use Rattle.array.proofs.tables.Array.make_volume.Goals as goal
-
-pub returns-in_err-check_volume : goal.returns-in_err-check_volume
-returns-in_err-check_volume c =
-    let p = err_from_is_err_and c.from_residual.result c.from_residual.ensures.1 in
-    let no = c.in_err-check_volume.ensures in
-    rw (p.1, p.2) (no.0, no.1, refl)
 
 pub invariant_of-self : goal.invariant_of-self
 invariant_of-self c =
