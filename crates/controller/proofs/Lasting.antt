@@ -1,5 +1,5 @@
 -- From the law of a log to the last write. Assumes nothing.
-use Rattle.std.proofs.Common.{◌≡◌, ℕ, ◌≤◌, Bool, true, false, cond, ◌&&◌, eqb, ◌⊎◌, List, [], ◌∷◌, ◌++◌, map, length, take, drop, sym, refl, ap, ◌∙◌, subst, inl, inr, ⊎_elim, append_assoc, append-nil, arith, length-take, take_all}
+use Rattle.std.proofs.Common.{◌≡◌, ℕ, ◌≤◌, Bool, true, false, cond, ◌&&◌, eqb, ◌⊎◌, List, [], ◌∷◌, ◌++◌, map, length, take, drop, sym, refl, ap, ◌∙◌, subst, inl, inr, ⊎_elim, append_assoc, append-nil, arith, length-take, take_all, Ok, Err}
 use lib.Seq.{take-append-le}
 use Rattle.std.proofs.lemmas.Bool.{cases_eq, eq-eqb, ne_eqb, cases_Bool, false≢true, cases_lt, both_ways}
 use Rattle.group.specs.Filling.{zeros}
@@ -12,9 +12,7 @@ use Rattle.controller.specs.declared.calls.Call.{Call}
 use Rattle.controller.specs.declared.calls.Call.TheVariants.{MakeGroup, DeleteGroup, MakeVolume, DeleteVolume, WriteControl, Size, Map, Read, Write}
 use Rattle.controller.specs.declared.calls.Value.{Value}
 use Rattle.controller.specs.declared.calls.Value.TheVariants.{Done}
-use Rattle.controller.specs.declared.calls.Answer.{Answer}
-use Rattle.controller.specs.declared.calls.Answer.TheVariants.{Accepted, Refused}
-use Rattle.controller.specs.State.{Entry, State, after_answer, state_of, put, entered}
+use Rattle.controller.specs.State.{Answer, Entry, State, after_answer, state_of, put, entered}
 use Rattle.controller.specs.Right.{Answers, RightFor, over, scene_at}
 use Rattle.controller.specs.Law.{Law, ReadAt, WroteAt, Makes, Made, Untouched, LastWrite, FirstZeros, LostExactly, accepted, refused_as_lost}
 use Rattle.controller.proofs.Zeros.{zero_whole}
@@ -70,8 +68,8 @@ quiet_call st p buffer (Write v b) w m = put_other st.contents (spot_of st.confi
 quiet_answer : (st : State) (p : Spot) (buffer : List ℕ) (call : Call) (x : Answer) →
     (accepted x ≡ true → (v b : ℕ) → call ≡ Write v b → spot_of st.configuration v b ≡ p → ⊥) → (accepted x ≡ true → Makes p.group call → ⊥) →
     content (after_answer st call buffer x) p ≡ content st p
-quiet_answer st p buffer call (Accepted w) no_write no-make = quiet_call st p buffer call (no_write refl) (no-make refl)
-quiet_answer st p buffer call (Refused x) no_write no-make = refl
+quiet_answer st p buffer call (Ok w) no_write no-make = quiet_call st p buffer call (no_write refl) (no-make refl)
+quiet_answer st p buffer call (Err x) no_write no-make = refl
 
 quiet : (past : List Entry) (e : Entry) (p : Spot) → (WroteAt past e p → ⊥) → (Made e p.group → ⊥) → content (state_of (past ++ e ∷ [])) p ≡ content (state_of past) p
 quiet past e p w m =
@@ -94,12 +92,12 @@ quiet_all past (e ∷ mid) p u =
 
 -- an accepted answer
 by_accepted : (cs : List Check) (v : Value) (out : List ℕ) (e : Entry) (x : Answer) → Answers cs v out e x → accepted x ≡ true → AllHold cs × (e.left ≡ over out e.buffer)
-by_accepted cs v out e (Accepted w) a t = (a.0, a.2)
-by_accepted cs v out e (Refused x) a t = absurd (false≢true t)
+by_accepted cs v out e (Ok w) a t = (a.0, a.2)
+by_accepted cs v out e (Err x) a t = absurd (false≢true t)
 
 contents_accepted : (st : State) (call : Call) (buffer : List ℕ) (x : Answer) → accepted x ≡ true → (after_answer st call buffer x).contents ≡ entered st call buffer
-contents_accepted st call buffer (Accepted w) t = refl
-contents_accepted st call buffer (Refused x) t = absurd (false≢true t)
+contents_accepted st call buffer (Ok w) t = refl
+contents_accepted st call buffer (Err x) t = absurd (false≢true t)
 
 -- what an accepted call enters at the block p
 content_entered : (past : List Entry) (e : Entry) (p : Spot) (call : Call) → e.call ≡ call → accepted e.answer ≡ true →
@@ -161,16 +159,16 @@ module _ (count : ℕ) (capacity : ℕ → ℕ) (log : List Entry) (law : Law co
   only_lost : (past : List Entry) (e : Entry) (v b : ℕ) (x : Answer) →
       Answers (read_checks (scene_at count capacity (state_of past) e) v b (length e.buffer)) Done (content (state_of past) (spot_of (state_of past).configuration v b)) e x →
       AllHold (block_checks (state_of past).configuration v b (length e.buffer)) → refused_as_lost x → LostAt e.after (state_of past).configuration v b
-  only_lost past e v b (Accepted w) a h z = absurd z
-  only_lost past e v b (Refused x) a h z =
+  only_lost past e v b (Ok w) a h z = absurd z
+  only_lost past e v b (Err x) a h z =
       ⊎_elim (λ l. absurd (l.0 h.0)) (λ f. ⊎_elim (λ l. absurd (l.0 h.1.0)) (λ f. ⊎_elim (λ l. absurd (l.0 h.1.1.0)) (λ f. ⊎_elim
       (λ l. ⊎_elim (λ lost. lost) (λ n. absurd (l.0 n)) (decide_lost e.after (state_of past).configuration v b)) (λ f. absurd f.1) f.1) f.1) f.1) a.0
 
   always_lost : (past : List Entry) (e : Entry) (v b : ℕ) (x : Answer) →
       Answers (read_checks (scene_at count capacity (state_of past) e) v b (length e.buffer)) Done (content (state_of past) (spot_of (state_of past).configuration v b)) e x →
       AllHold (block_checks (state_of past).configuration v b (length e.buffer)) → LostAt e.after (state_of past).configuration v b → refused_as_lost x
-  always_lost past e v b (Accepted w) a h z = absurd (a.0.1.1.1.0 z)
-  always_lost past e v b (Refused x) a h z =
+  always_lost past e v b (Ok w) a h z = absurd (a.0.1.1.1.0 z)
+  always_lost past e v b (Err x) a h z =
       ⊎_elim (λ l. absurd (l.0 h.0)) (λ f. ⊎_elim (λ l. absurd (l.0 h.1.0)) (λ f. ⊎_elim (λ l. absurd (l.0 h.1.1.0)) (λ f. ⊎_elim
       (λ l. l.1) (λ f. absurd f.1) f.1) f.1) f.1) a.0
 

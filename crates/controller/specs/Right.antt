@@ -1,5 +1,5 @@
 -- The rules of one call: which answers are right. Assumes nothing.
-use Rattle.std.specs.Prelude.{◌≡◌, ℕ, ◌+◌, ◌<◌, true, List, [], ◌++◌, length, drop, Some, None, Option}
+use Rattle.std.specs.Prelude.{◌≡◌, ℕ, ◌+◌, ◌<◌, true, List, [], ◌++◌, length, drop, Some, None, Option, Ok, Err}
 use Rattle.layout.specs.declared.extent.ExtentRow.{ExtentRow}
 use Rattle.group.specs.Group.{member}
 use Rattle.group.specs.Filling.{extent}
@@ -13,9 +13,7 @@ use Rattle.controller.specs.declared.calls.Call.{Call}
 use Rattle.controller.specs.declared.calls.Call.TheVariants.{MakeGroup, DeleteGroup, MakeVolume, DeleteVolume, WriteControl, Size, Map, Read, Write}
 use Rattle.controller.specs.declared.calls.Value.{Value}
 use Rattle.controller.specs.declared.calls.Value.TheVariants.{Done, Blocks, At}
-use Rattle.controller.specs.declared.calls.Answer.{Answer}
-use Rattle.controller.specs.declared.calls.Answer.TheVariants.{Accepted, Refused}
-use Rattle.controller.specs.State.{Entry, State}
+use Rattle.controller.specs.State.{Answer, Entry, State}
 
 -- the buffer with `out` written over its front
 abbrev pub over : List ℕ → List ℕ → List ℕ
@@ -24,8 +22,8 @@ over out buffer = out ++ drop (length out) buffer
 -- Accepted exactly when all checks hold, with this value, and these bytes written over the front of the buffer; refused
 -- exactly with the first check that does not hold, and then the buffer is as it was.
 abbrev pub Answers : List Check → Value → List ℕ → Entry → Answer → Type 0
-Answers cs v out e (Accepted w) = AllHold cs × (w ≡ v) × (e.left ≡ over out e.buffer)
-Answers cs v out e (Refused x) = FirstNo cs x.refusal × (e.left ≡ e.buffer)
+Answers cs v out e (Ok w) = AllHold cs × (w ≡ v) × (e.left ≡ over out e.buffer)
+Answers cs v out e (Err x) = FirstNo cs x.refusal × (e.left ≡ e.buffer)
 
 -- where the entry's call is made
 abbrev pub scene_at : ℕ → (ℕ → ℕ) → State → Entry → Scene
@@ -93,8 +91,8 @@ Names s (Write v b) f = NamesMember s v b f
 
 -- A REFUSAL NAMES A DRIVE exactly where drives have to do with it, and one that it may name; which of several is free
 abbrev pub BlamesFor : Scene → Call → Answer → Type 0
-BlamesFor s call (Accepted w) = Unit {0}
-BlamesFor s call (Refused x) = Blamed x × Names s call x.fault
+BlamesFor s call (Ok w) = Unit {0}
+BlamesFor s call (Err x) = Blamed x × Names s call x.fault
 
 abbrev pub Blames : ℕ → (ℕ → ℕ) → State → Entry → Type 0
 Blames count capacity st e = BlamesFor (scene_at count capacity st e) e.call e.answer

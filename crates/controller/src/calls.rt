@@ -51,16 +51,12 @@ pub enum Call<'a> {
 }
 
 /// What an accepted call answers.
-#[derive(Clone, Copy)]
+#[derive(Clone, Copy, PartialEq, Eq, Debug)]
 pub enum Value {
     Done,
     Blocks(usize),
     At { drive: usize, block: usize },
 }
 
-/// What a call answers.
-#[derive(Clone, Copy)]
-pub enum Answer {
-    Accepted(Value),
-    Refused(Refused),
-}
+/// What a call answers: accepted with a value, or refused.
+pub type Answer = Result<Value, Refused>;

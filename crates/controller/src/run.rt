@@ -8,6 +8,7 @@ use crate::perform::perform;
 use array::tables::Array;
 use bus::Bus;
 use std::alloc::{AllocError, Global};
+use std::array::from_fn;
 
 /// What happens to a bus between two calls: some drives may break, and nothing else changes.
 pub trait Between<B: Bus> {
@@ -19,11 +20,7 @@ pub trait Between<B: Bus> {
 fn marks<B: Bus>(bus: &B) -> [bool; 16]
     ensures { (d : ℕ) → slice_index_or result d true ≡ (at (B.Bus.drives bus.now) d).broken }
 {
-    let mut marks = [true; 16];
-    for d in 0..16usize {
-        marks[d] = bus.broken(d);
-    }
-    marks
+    from_fn(|d| bus.broken(d))
 }
 
 // One request, put into the log. Where memory is wanting nothing has happened.
