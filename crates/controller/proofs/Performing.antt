@@ -1,5 +1,5 @@
 -- The calls that try drives, by what the array answers to them. Assumes nothing.
-use Rattle.std.proofs.Common.{◌≡◌, ℕ, ◌<◌, ◌≤◌, Bool, true, false, List, length, get_or, take, Some, None, Ok, Err, Option, Result, sym, refl, ap, ◌∙◌, subst, ⊎_elim, arith, length-take, Bor}
+use Rattle.std.proofs.Common.{◌≡◌, ℕ, ◌<◌, ◌≤◌, true, List, length, get_or, take, Some, None, Ok, Err, Option, Result, unwrap_or, sym, refl, ap, ◌∙◌, subst, ⊎_elim, arith, length-take, Bor}
 use Rattle.std.proofs.lemmas.List.{get_or-take, get_or_past}
 use Rattle.std.proofs.lemmas.Bool.{both_ways, cases_lt}
 use Rattle.bus.specs.Drives.{Drive, at}
@@ -28,42 +28,20 @@ use Rattle.controller.proofs.Spots.{spot_inside}
 use Rattle.controller.proofs.Traces.{sound_kept}
 use Rattle.controller.proofs.Writing.{read_gives, held_write, held_left, whole_write}
 
--- what a write names
-abbrev is_write : Call → Bool
-is_write (MakeGroup g code k es) = false
-is_write (DeleteGroup g) = false
-is_write (MakeVolume v rs) = false
-is_write (DeleteVolume v) = false
-is_write (WriteControl v on) = false
-is_write (Size v) = false
-is_write (Map v b) = false
-is_write (Read v b) = false
-is_write (Write v b) = true
+-- the block of a volume set that a write names
+abbrev written : Call → Option (ℕ × ℕ)
+written (MakeGroup g code k es) = None
+written (DeleteGroup g) = None
+written (MakeVolume v rs) = None
+written (DeleteVolume v) = None
+written (WriteControl v on) = None
+written (Size v) = None
+written (Map v b) = None
+written (Read v b) = None
+written (Write v b) = Some (v, b)
 
-abbrev named_volume : Call → ℕ
-named_volume (MakeGroup g code k es) = 0
-named_volume (DeleteGroup g) = 0
-named_volume (MakeVolume v rs) = 0
-named_volume (DeleteVolume v) = 0
-named_volume (WriteControl v on) = 0
-named_volume (Size v) = 0
-named_volume (Map v b) = 0
-named_volume (Read v b) = v
-named_volume (Write v b) = v
-
-abbrev named_block : Call → ℕ
-named_block (MakeGroup g code k es) = 0
-named_block (DeleteGroup g) = 0
-named_block (MakeVolume v rs) = 0
-named_block (DeleteVolume v) = 0
-named_block (WriteControl v on) = 0
-named_block (Size v) = 0
-named_block (Map v b) = 0
-named_block (Read v b) = b
-named_block (Write v b) = b
-
-no_write : (call : Call) (v b : ℕ) → is_write call ≡ false → call ≡ Write v b → ⊥
-no_write call v b f q = both_ways (is_write call) f (ap is_write q)
+no_write : (call : Call) (v b : ℕ) → written call ≡ None → call ≡ Write v b → ⊥
+no_write call v b f q = both_ways (is_some (written call)) (ap is_some f) (ap (λ (k : Call). is_some (written k)) q)
 
 -- where drives are named, they have to do with the refusal
 tried : (x : Refused) (f : Fault) → Blamed x → x.fault ≡ Some f → of_drives x.refusal ≡ true
@@ -169,8 +147,8 @@ module _ (st : State) (m n : List Drive) (sound : SoundConfig st.configuration) 
   -- writing
   lost_there : (v b w k : ℕ) → Write v b ≡ Write w k → LostRowAt (λ d. (at m d).broken) st.configuration w k → LostRowAt (λ d. (at m d).broken) st.configuration v b
   lost_there v b w k q l =
-      subst (λ (x : ℕ). LostRowAt (λ d. (at m d).broken) st.configuration x b) (sym (ap named_volume q))
-      (subst (λ (y : ℕ). LostRowAt (λ d. (at m d).broken) st.configuration w y) (sym (ap named_block q)) l)
+      let e : (v, b) ≡ (w, k) = ap (λ (x : Call). unwrap_or (written x) (0, 0)) q in
+      subst (λ (p : ℕ × ℕ). LostRowAt (λ d. (at m d).broken) st.configuration p.0 p.1) (sym e) l
 
   unwritten : (v b : ℕ) (bytes : List ℕ) (x : Refused) (f : Option Fault) → x.fault ≡ f → FirstNo (write_checks (scene m n st.configuration) v b (length bytes)) x.refusal → Blamed x →
       NotTaken m n st.configuration v b f → Stepped st (entry (Write v b) bytes (Err x) bytes m n) m n st.configuration
