@@ -7,10 +7,11 @@ mod trial;
 
 use crate::tally::Tally;
 use crate::trial::{Trial, UNTOUCHED};
-use buses::{BreakingBus, MemoryBus};
+use bus::BLOCK;
+use buses::{BreakingBus, Drives, MemoryBus};
 use group::record::Group;
 use layout::extent::ExtentRow;
-use layout::geometry::Geometry;
+use layout::geometry::{Geometry, MOST_MEMBERS};
 use layout::method::Method;
 use layout::mirror::Mirror;
 use layout::parity::Parity;
@@ -23,7 +24,7 @@ use std::marker::PhantomData;
 const ACCESSES: usize = 48;
 
 // How many members a group has, how deep its strips are, and how many rows it has.
-#[derive(Clone, Copy)]
+#[derive(Clone, Copy, PartialEq, Eq, Debug)]
 struct Shape {
     members: usize,
     depth: usize,
@@ -39,11 +40,34 @@ impl Shape {
         }
     }
 
-    // A group of the first rows of the drives.
+    // The drives of the members and a spare one, all of them full.
+    fn drives(self) -> Drives {
+        Drives {
+            number: self.members.saturating_add(1),
+            capacity: self.rows,
+        }
+    }
+
+    // The first rows of the drives.
+    fn extents(self) -> [ExtentRow; MOST_MEMBERS] {
+        from_fn(|drive| ExtentRow {
+            drive,
+            start: 0,
+            count: self.rows,
+        })
+    }
+
     fn group<M: Method>(self, extents: &[ExtentRow]) -> Option<Group> {
         let geometry = Geometry::new::<M>(self.members, self.depth, self.rows).ok()?;
         Group::new(0, geometry, extents)
     }
+}
+
+fn bytes_of(drives: Drives) -> usize {
+    drives
+        .number
+        .saturating_mul(drives.capacity)
+        .saturating_mul(BLOCK)
 }
 
 // The work of a trial, for every drive, a spare one among them, and every access.
@@ -55,27 +79,22 @@ fn drill<M: Method, F: Fn(&mut Trial<M>)>(
     requires { F.IsAlwaysCallable work }
 {
     let mut tally = Tally::default();
-    let all: [ExtentRow; 8] = from_fn(|drive| ExtentRow {
-        drive,
-        start: 0,
-        count: shape.rows,
-    });
-    let extents = &all[..shape.members.min(8)];
+    let all = shape.extents();
+    let extents = &all[..shape.members.min(MOST_MEMBERS)];
     let Some(group) = shape.group::<M>(extents) else {
         tally.compare(false);
         return Ok(tally);
     };
-    let drives = shape.members.saturating_add(1);
-    let size = drives.saturating_mul(shape.rows).saturating_mul(512);
+    let drives = shape.drives();
     let blocks = group.geometry().protected_blocks::<M>();
     // Drives and accesses are tried by their numbers; nothing is indexed.
-    for dead in 0..drives {
+    for dead in 0..drives.number {
         for access in 0..ACCESSES {
-            let mut memory = vec![in heap; UNTOUCHED; size]?;
+            let mut memory = vec![in heap; UNTOUCHED; bytes_of(drives)]?;
             let mut trial = Trial {
                 group,
                 extents,
-                bus: BreakingBus::new(MemoryBus::new(memory.as_mut_slice(), drives, shape.rows)),
+                bus: BreakingBus::new(MemoryBus::new(memory.as_mut_slice(), drives)),
                 dead,
                 access,
                 expected: vec![in heap; 0u8; blocks]?,

@@ -25,7 +25,7 @@ impl Tally {
             Err(GroupFault::Lost { .. }) => &mut self.lost,
             Err(
                 GroupFault::Failed {
-                    fault: BusFault::Broken { .. },
+                    fault: BusFault::Broken(_),
                     ..
                 },
             ) => &mut self.failed,

@@ -1,6 +1,6 @@
 // One trial: a group on drives of its own, of which one dies in one of its accesses.
 use crate::tally::Tally;
-use bus::Bus;
+use bus::{BLOCK, BlockAddress, Bus};
 use buses::{BreakingBus, MemoryBus};
 use group::fill::fill;
 use group::record::Group;
@@ -47,7 +47,7 @@ impl<'e, 'm, M: Method> Trial<'e, 'm, M> {
             let value = ((q % 100) as u8).wrapping_add(add);
             let answer = self
                 .group
-                .write::<TrialBus, M>(&mut self.bus, q, &[value; 512]);
+                .write::<TrialBus, M>(&mut self.bus, q, &[value; BLOCK]);
             if self.tally.answer(answer) {
                 *expected = value;
             }
@@ -57,7 +57,7 @@ impl<'e, 'm, M: Method> Trial<'e, 'm, M> {
     // Reads every protected block; a refused read has to leave the buffer alone.
     fn read_all(&mut self) {
         for (q, expected) in self.expected.iter().enumerate() {
-            let mut buf = [UNTOUCHED; 512];
+            let mut buf = [UNTOUCHED; BLOCK];
             let answer = self.group.read::<TrialBus, M>(&mut self.bus, q, &mut buf);
             let value = if self.tally.answer(answer) {
                 *expected
@@ -69,9 +69,9 @@ impl<'e, 'm, M: Method> Trial<'e, 'm, M> {
     }
 
     // Holds a block of a drive against the value that it should be full of, unless the drive dies in the look itself.
-    fn look(&mut self, drive: usize, block: usize, value: u8) {
-        let mut buf = [UNTOUCHED; 512];
-        if self.bus.read(drive, block, &mut buf).is_ok() {
+    fn look(&mut self, at: BlockAddress, value: u8) {
+        let mut buf = [UNTOUCHED; BLOCK];
+        if self.bus.read(at, &mut buf).is_ok() {
             self.tally.compare(all_are(&buf, value));
         }
     }
@@ -83,7 +83,13 @@ impl<'e, 'm, M: Method> Trial<'e, 'm, M> {
             for e in self.extents {
                 // The blocks of a drive have no slice: their numbers are what is asked for.
                 for block in e.start..e.start.saturating_add(e.count) {
-                    self.look(e.drive, block, 0);
+                    self.look(
+                        BlockAddress {
+                            drive: e.drive,
+                            block,
+                        },
+                        0,
+                    );
                 }
             }
         }
@@ -108,7 +114,7 @@ impl<'e, 'm, M: Method> Trial<'e, 'm, M> {
         self.tally = before;
         let _ = self.bus.break_now(1);
         let spare = self.extents.len();
-        if !self.group.move_member(1, spare, 0) {
+        if self.group.move_member(1, spare, 0).is_err() {
             self.tally.compare(false);
             return;
         }
@@ -116,7 +122,13 @@ impl<'e, 'm, M: Method> Trial<'e, 'm, M> {
         let answer = self.group.rebuild::<TrialBus, M>(&mut self.bus, 1);
         if self.tally.answer(answer) {
             let value = self.expected.first().copied().unwrap_or(0);
-            self.look(spare, 0, value);
+            self.look(
+                BlockAddress {
+                    drive: spare,
+                    block: 0,
+                },
+                value,
+            );
         }
     }
 }
