@@ -56,7 +56,7 @@ on_write_control (Some v) on = record { plain = λ c. (refl, tt); right = λ s s
 pub on_size : (v : ℕ) → Driveless (Size v) (λ c. size_checks c v) (λ c. Blocks (blocks_of c v))
 on_size v = record { plain = λ c. (refl, tt); right = λ s st e h. h; unnamed = λ s f h. h; keeps = λ st m buffer h. h }
 
-pub on_map : (v b : ℕ) → Driveless (Map v b) (λ c. map_checks c v b) (λ c. At (mapped c v b).drive (mapped c v b).at)
+pub on_map : (v b : ℕ) → Driveless (Map v b) (λ c. map_checks c v b) (λ c. At (record { drive = (mapped c v b).drive; block = (mapped c v b).at }))
 on_map v b = record { plain = λ c. (refl, (refl, tt)); right = λ s st e h. h; unnamed = λ s f h. h; keeps = λ st m buffer h. h }
 
 -- what the array answers to such a call: c is the configuration before, z after, and w where it is accepted

@@ -57,9 +57,9 @@ module _ (st : State) (m n : List Drive) (sound : SoundConfig st.configuration) 
       (λ first. still st (MakeGroup g code k es) buffer m (Err x) z (first, refl)
       (blamed, subst (NamesExtent (scene m m st.configuration) g es.now) (sym e) tt) same lies whole held)
       first
-  unmade g code k es buffer z x (Some (OfRow h r i d b)) e first same blamed left =
+  unmade g code k es buffer z x (Some (OfRow h r i p)) e first same blamed left =
       let frame = left.1 in
-      let drives : of_drives x.refusal ≡ true = tried x (OfRow h r i d b) blamed e in
+      let drives : of_drives x.refusal ≡ true = tried x (OfRow h r i p) blamed e in
       record {
         right = (first, refl);
         blames = (
@@ -76,7 +76,7 @@ module _ (st : State) (m n : List Drive) (sound : SoundConfig st.configuration) 
         whole = whole;
         held = held_unfilled m n st es.now sound (unassigned_by m n st.configuration g code k es.now x.refusal first drives) frame held;
       }
-  unmade g code k es buffer z x (Some (OfBlock v a h r i d b)) e first same blamed left = absurd left
+  unmade g code k es buffer z x (Some (OfBlock o h r i p)) e first same blamed left = absurd left
 
   pub group_made : {U : Type 0} (g code k : ℕ) (es : Bor (List ExtentRow)) (buffer : List ℕ) (z : Configuration) (r : Result U Refused) → MakesGroup m n st.configuration z g code k es.now r →
       Stepped st (entry (MakeGroup g code k es) buffer (answered r) buffer m n) m n z
@@ -104,8 +104,8 @@ module _ (st : State) (m n : List Drive) (sound : SoundConfig st.configuration) 
       (λ first. subst (λ (bytes : List ℕ). Stepped st (entry (Read v b) was (Err x) bytes m m) m m st.configuration) (sym same)
       (still st (Read v b) was m (Err x) st.configuration (first, refl) (blamed, subst (NamesMember (scene m m st.configuration) v b) (sym e) tt) refl lies whole held))
       first
-  unread v b was is x (Some (OfRow h r i d k)) e first same blamed left = absurd left
-  unread v b was is x (Some (OfBlock w a h r i d k)) e first same blamed left =
+  unread v b was is x (Some (OfRow h r i p)) e first same blamed left = absurd left
+  unread v b was is x (Some (OfBlock o h r i p)) e first same blamed left =
       let frame = left.1 in
       let who = left.0 in
       record {
@@ -118,7 +118,7 @@ module _ (st : State) (m n : List Drive) (sound : SoundConfig st.configuration) 
         count = frame.count;
         sizes = frame.sizes;
         stays = frame.stays;
-        spared = record { untried = λ t. absurd (t (tried x (OfBlock w a h r i d k) blamed e)); unwritten = λ y z q l. absurd (no_write (Read v b) y z refl q) };
+        spared = record { untried = λ t. absurd (t (tried x (OfBlock o h r i p) blamed e)); unwritten = λ y z q l. absurd (no_write (Read v b) y z refl q) };
         becomes = refl;
         lies = lies_frame m n frame st.configuration lies;
         whole = whole;
@@ -156,11 +156,11 @@ module _ (st : State) (m n : List Drive) (sound : SoundConfig st.configuration) 
       subst (λ (o : List Drive). FirstNo (write_checks (scene m o st.configuration) v b (length bytes)) x.refusal → Stepped st (entry (Write v b) bytes (Err x) bytes m o) m o st.configuration) (sym left)
       (λ first. still st (Write v b) bytes m (Err x) st.configuration (first, refl) (blamed, subst (NamesMember (scene m m st.configuration) v b) (sym e) tt) refl lies whole held)
       first
-  unwritten v b bytes x (Some (OfRow h r i d k)) e first blamed left = absurd left
-  unwritten v b bytes x (Some (OfBlock w a h r i d k)) e first blamed left =
+  unwritten v b bytes x (Some (OfRow h r i p)) e first blamed left = absurd left
+  unwritten v b bytes x (Some (OfBlock o h r i p)) e first blamed left =
       let frame = left.1.frame in
       let who = left.0 in
-      let drives : of_drives x.refusal ≡ true = tried x (OfBlock w a h r i d k) blamed e in
+      let drives : of_drives x.refusal ≡ true = tried x (OfBlock o h r i p) blamed e in
       let p = spot_inside sound v b (passed (passed (passed first drives refl).1 drives refl).1 drives refl).0 in
       record {
         right = (first, refl);

@@ -37,7 +37,7 @@ RightFor s st e (DeleteVolume v) = Answers (delete_volume_checks st.configuratio
 RightFor s st e (WriteControl v on) = Answers (control_checks st.configuration v) Done [] e e.answer
 RightFor s st e (Size v) = Answers (size_checks st.configuration v) (Blocks (blocks_of st.configuration v)) [] e e.answer
 RightFor s st e (Map v b) =
-    Answers (map_checks st.configuration v b) (At (mapped st.configuration v b).drive (mapped st.configuration v b).at) [] e e.answer
+    Answers (map_checks st.configuration v b) (At (record { drive = (mapped st.configuration v b).drive; block = (mapped st.configuration v b).at })) [] e e.answer
 RightFor s st e (Read v b) =
     Answers (read_checks s v b (length e.buffer)) Done (st.contents (spot_of st.configuration v b).group (spot_of st.configuration v b).block) e e.answer
 RightFor s st e (Write v b) = Answers (write_checks s v b (length e.buffer)) Done [] e e.answer
@@ -70,13 +70,13 @@ pub record MissingMember (s : Scene) (v a w x h r i d b : ℕ) : Type 0 where
 
 abbrev pub NamesExtent : Scene → ℕ → List ExtentRow → Option Fault → Type 0
 NamesExtent s g es None = Unit {0}
-NamesExtent s g es (Some (OfRow h r i d b)) = BrokenExtent s g es h r i d b
-NamesExtent s g es (Some (OfBlock w x h r i d b)) = ⊥
+NamesExtent s g es (Some (OfRow h r i p)) = BrokenExtent s g es h r i p.drive p.block
+NamesExtent s g es (Some (OfBlock o h r i p)) = ⊥
 
 abbrev pub NamesMember : Scene → ℕ → ℕ → Option Fault → Type 0
 NamesMember s v a None = Unit {0}
-NamesMember s v a (Some (OfRow h r i d b)) = ⊥
-NamesMember s v a (Some (OfBlock w x h r i d b)) = MissingMember s v a w x h r i d b
+NamesMember s v a (Some (OfRow h r i p)) = ⊥
+NamesMember s v a (Some (OfBlock o h r i p)) = MissingMember s v a o.volume o.block h r i p.drive p.block
 
 abbrev pub Names : Scene → Call → Option Fault → Type 0
 Names s (MakeGroup g code k es) f = NamesExtent s g es.now f

@@ -1,4 +1,5 @@
 //! What is asked of an array, and what it answers. Numbers are as the caller gave them: the checks judge them.
+use array::address::BlockAddress;
 use array::refusal::Refused;
 use array::volume::Run;
 use layout::extent::ExtentRow;
@@ -55,7 +56,7 @@ pub enum Call<'a> {
 pub enum Value {
     Done,
     Blocks(usize),
-    At { drive: usize, block: usize },
+    At(BlockAddress),
 }
 
 /// What a call answers: accepted with a value, or refused.

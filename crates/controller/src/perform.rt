@@ -5,6 +5,7 @@ ghost use Rattle.controller.specs.Law.{Step, Goes, entry};
 
 use crate::calls::{Answer, Call, Value};
 use array::tables::Array;
+use array::volume::VolumeBlock;
 use bus::Bus;
 use layout::block::bytes_fit;
 
@@ -26,14 +27,15 @@ fn answer<B: Bus>(array: &mut Array, bus: &mut B, call: Call, buf: &mut [u8]) ->
         Call::DeleteVolume { volume } => array.delete_volume(volume).map(done),
         Call::WriteControl { volume, enabled } => array.write_control(volume, enabled).map(done),
         Call::Size { volume } => array.size(volume).map(Value::Blocks),
-        Call::Map { volume, block } => array.map(volume, block).map(|place| Value::At {
-            drive: place.drive,
-            block: place.block,
-        }),
-        Call::Read { volume, block } => array.read(bus, volume, block, buf).map(done),
+        Call::Map { volume, block } => array.map(VolumeBlock { volume, block }).map(Value::At),
+        Call::Read { volume, block } => array
+            .read(bus, VolumeBlock { volume, block }, buf)
+            .map(done),
         Call::Write { volume, block } => {
             bytes_fit(buf);
-            array.write(bus, volume, block, buf).map(done)
+            array
+                .write(bus, VolumeBlock { volume, block }, buf)
+                .map(done)
         }
     }
 }

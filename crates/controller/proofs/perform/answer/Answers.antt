@@ -50,6 +50,6 @@ returns-in-Write g c =
 
 pub returns-in-Map : goal.returns-in-Map
 returns-in-Map g c =
-    step_at c.in-Map.is (answer_map (λ p. At p.drive p.block) _ (λ u w q. search rules) c.map-in-Map.result _ c.map-in-Map-2.ensures.cases)
-    (asks_step (on_map c.in-Map.volume c.in-Map.block) (λ c. refl) (λ p. At p.drive p.block) _ c.args.array.now _ _ c.map-in-Map.result
-    (λ p e. ap (λ d. At d p.block) e.0 ∙ ap (At (mapped (config c.args.array.now) c.in-Map.volume c.in-Map.block).drive) e.1) c.map-in-Map.ensures)
+    step_at c.in-Map.is (answer_map At _ (λ u w q. search rules) c.map-in-Map.result _ c.map-in-Map-2.ensures.cases)
+    (asks_step (on_map c.in-Map.volume c.in-Map.block) (λ c. refl) At _ c.args.array.now _ _ c.map-in-Map.result
+    (λ p e. ap (λ d. At (record { drive = d; block = p.block })) e.0 ∙ ap (λ b. At (record { drive = (mapped (config c.args.array.now) c.in-Map.volume c.in-Map.block).drive; block = b })) e.1) c.map-in-Map.ensures)
