@@ -1,11 +1,11 @@
 //! What is asked of an array, and what it answers. Numbers are as the caller gave them: the checks judge them.
-use array::address::BlockAddress;
 use array::refusal::Refused;
 use array::volume::Run;
+use bus::BlockAddress;
 use layout::extent::ExtentRow;
 
 /// One call. The buffer of a call that has one stands beside it.
-#[derive(Clone, Copy)]
+#[derive(Clone, Copy, PartialEq, Eq, Debug)]
 pub enum Call<'a> {
     /// Makes a group by the method with this code, on these extents.
     MakeGroup {

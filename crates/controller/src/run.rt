@@ -6,7 +6,7 @@ ghost use Rattle.controller.specs.Runs.{Turned, Ran};
 use crate::log::{Event, Request};
 use crate::perform::perform;
 use array::tables::Array;
-use bus::Bus;
+use bus::{Bus, MOST_DRIVES};
 use std::alloc::{AllocError, Global};
 use std::array::from_fn;
 
@@ -17,7 +17,7 @@ pub trait Between<B: Bus> {
 }
 
 // Of every drive whether it is broken.
-fn marks<B: Bus>(bus: &B) -> [bool; 16]
+fn marks<B: Bus>(bus: &B) -> [bool; MOST_DRIVES]
     ensures { (d : ℕ) → slice_index_or result d true ≡ (at (B.Bus.drives bus.now) d).broken }
 {
     from_fn(|d| bus.broken(d))

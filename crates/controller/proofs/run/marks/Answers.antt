@@ -21,7 +21,7 @@ from_fn_each g I P step (suc n) i f ys start r k low high d =
 pub returns : goal.returns
 returns g c = λ d.
     let ds = g.B.Bus.drives c.args.bus.now in
-    let few = (g.B.Bus.sound c.args.bus.now).few in
+    let few = (g.met.B.Bus.sound c.args.bus.now).few in
     ⊎_elim
     (λ (l : d < 16). from_fn_each _ (λ f. f.0.now ≡ c.args.bus.now) (λ i y. y ≡ (at ds i).broken) (λ s i y q is r. search rules) 16 0 _ c.from_fn.result refl c.from_fn.ensures.items.each d (omega arith) (omega arith) true)
     (λ (l : 16 ≤ d). get_or_past c.from_fn.result d true (omega (arith, c.from_fn.ensures.items.long)) ∙ sym (ap (λ (x : Drive). x.broken) (get_or_past ds d absent (omega arith))))
