@@ -8,6 +8,7 @@ use layout::extent::ExtentRow;
 #[derive(Clone, Copy, PartialEq, Eq, Debug)]
 pub enum Call<'a> {
     /// Makes a group by the method with this code, on these extents.
+    // The code is any number, as its caller gave it: what is no method's is for the checks to refuse.
     MakeGroup {
         group: usize,
         code: usize,

@@ -11,6 +11,7 @@ pub struct Request<'a> {
 
 /// A call that was made: what its buffer held, what it answered, what the buffer holds then, and of every drive whether it
 /// was broken before and after.
+// Each array of marks is one look at the bus, kept as it was taken; pairs of marks would have to be put together from two.
 #[derive(PartialEq, Eq, Debug, Drop)]
 pub struct Event<'a> {
     pub call: Call<'a>,

@@ -19,8 +19,8 @@ impl Tally {
     }
 
     // Counts an answer: accepted, lost, failed at its drive, or anything else, which would be wrong.
-    pub fn answer(&mut self, r: Result<(), GroupFault>) -> bool {
-        let count = match r {
+    pub fn count(&mut self, answer: Result<(), GroupFault>) {
+        let count = match answer {
             Ok(()) => &mut self.accepted,
             Err(GroupFault::Lost { .. }) => &mut self.lost,
             Err(
@@ -32,7 +32,6 @@ impl Tally {
             Err(_) => &mut self.wrong,
         };
         *count = count.saturating_add(1);
-        r.is_ok()
     }
 
     pub fn compare(&mut self, same: bool) {

@@ -2,6 +2,7 @@
 use crate::tally::Tally;
 use bus::{BLOCK, BlockAddress, Bus};
 use buses::{BreakingBus, MemoryBus};
+use group::fault::GroupFault;
 use group::fill::fill;
 use group::record::Group;
 use layout::extent::ExtentRow;
@@ -37,8 +38,10 @@ impl<'e, 'm, M: Method> Trial<'e, 'm, M> {
         let _ = self.bus.break_in(self.dead, self.access);
     }
 
-    fn fill_group(&mut self) -> bool {
-        self.tally.answer(fill(&mut self.bus, 0, self.extents))
+    fn fill_group(&mut self) -> Result<(), GroupFault> {
+        let answer = fill(&mut self.bus, 0, self.extents);
+        self.tally.count(answer);
+        answer
     }
 
     // Writes a value to every protected block; what is expected there is its old value, or the new one if that was accepted.
@@ -48,7 +51,8 @@ impl<'e, 'm, M: Method> Trial<'e, 'm, M> {
             let answer = self
                 .group
                 .write::<TrialBus, M>(&mut self.bus, q, &[value; BLOCK]);
-            if self.tally.answer(answer) {
+            self.tally.count(answer);
+            if answer.is_ok() {
                 *expected = value;
             }
         }
@@ -59,11 +63,8 @@ impl<'e, 'm, M: Method> Trial<'e, 'm, M> {
         for (q, expected) in self.expected.iter().enumerate() {
             let mut buf = [UNTOUCHED; BLOCK];
             let answer = self.group.read::<TrialBus, M>(&mut self.bus, q, &mut buf);
-            let value = if self.tally.answer(answer) {
-                *expected
-            } else {
-                UNTOUCHED
-            };
+            self.tally.count(answer);
+            let value = if answer.is_ok() { *expected } else { UNTOUCHED };
             self.tally.compare(all_are(&buf, value));
         }
     }
@@ -79,7 +80,7 @@ impl<'e, 'm, M: Method> Trial<'e, 'm, M> {
     // The drive dies while the group is filled.
     pub fn fill(&mut self) {
         self.condemn();
-        if self.fill_group() {
+        if self.fill_group().is_ok() {
             for e in self.extents {
                 // The blocks of a drive have no slice: their numbers are what is asked for.
                 for block in e.start..e.start.saturating_add(e.count) {
@@ -120,7 +121,8 @@ impl<'e, 'm, M: Method> Trial<'e, 'm, M> {
         }
         self.condemn();
         let answer = self.group.rebuild::<TrialBus, M>(&mut self.bus, 1);
-        if self.tally.answer(answer) {
+        self.tally.count(answer);
+        if answer.is_ok() {
             let value = self.expected.first().copied().unwrap_or(0);
             self.look(
                 BlockAddress {
