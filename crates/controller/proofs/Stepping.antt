@@ -30,7 +30,7 @@ abbrev pub answered : {U : Type 0} → Result U Refused → Answer
 answered r = answer_by (λ u. Done) r
 
 -- which is what `map` answers
-pub answer_map : {V : Type 0} (f : V → Value) (Q : V → Value → Type 0) → ((v : V) (w : Value) → Q v w → w ≡ f v) → (r : Result V Refused) (x : Answer) →
+answer_map : {V : Type 0} (f : V → Value) (Q : V → Value → Type 0) → ((v : V) (w : Value) → Q v w → w ≡ f v) → (r : Result V Refused) (x : Answer) →
     MatchResult r (λ v. IsOkAnd x (Q v)) (λ e. x ≡ Err e) → x ≡ answer_by f r
 answer_map f Q q (Ok v) (Ok w) h = ap Ok (q v w h)
 answer_map f Q q (Ok v) (Err e) h = absurd h
@@ -121,6 +121,9 @@ pub left_by : (past : List Entry) (call : Call) (was is : List ℕ) (x : Answer)
 left_by past call was is x a m n k R h step =
     behind_by past call was is x a a m n k R h (λ y. subst (λ (c : Configuration). Stepped (state_of past) (entry call was x is m n) m n c) (sym k.tables) (step y))
 
--- the arm of a call, with the answer that `map` gave
-pub step_at : {call k : Call} {x y : Answer} {was is : List ℕ} {a z : Array} {m n : List Drive} → call ≡ k → x ≡ y → Step (entry k was y is m n) a z m n → Step (entry call was x is m n) a z m n
-step_at {k} {x} {was} {is} {a} {z} {m} {n} e f s = subst (λ (c : Call). Step (entry c was x is m n) a z m n) (sym e) (subst (λ (w : Answer). Step (entry k was w is m n) a z m n) (sym f) s)
+-- the arm of a call, whose answer is what `map` gave
+pub step_at : {V : Type 0} {call k : Call} {was is : List ℕ} {a z : Array} {m n : List Drive} → call ≡ k →
+    (f : V → Value) (Q : V → Value → Type 0) → ((v : V) (w : Value) → Q v w → w ≡ f v) → (r : Result V Refused) (x : Answer) → MatchResult r (λ v. IsOkAnd x (Q v)) (λ e. x ≡ Err e) →
+    Step (entry k was (answer_by f r) is m n) a z m n → Step (entry call was x is m n) a z m n
+step_at {k} {was} {is} {a} {z} {m} {n} e f Q q r x given s =
+    subst (λ (c : Call). Step (entry c was x is m n) a z m n) (sym e) (subst (λ (w : Answer). Step (entry k was w is m n) a z m n) (sym (answer_map f Q q r x given)) s)
