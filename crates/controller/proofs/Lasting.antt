@@ -1,7 +1,7 @@
 -- From the law of a log to the last write. Assumes nothing.
-use Rattle.std.proofs.Common.{◌≡◌, ℕ, ◌≤◌, Bool, true, false, cond, ◌&&◌, eqb, ◌⊎◌, List, [], ◌∷◌, ◌++◌, map, length, take, drop, sym, refl, ap, ◌∙◌, subst, inl, inr, ⊎_elim, append_assoc, append-nil, arith, length-take, take_all}
-use lib.Seq.{take-append-le}
-use Rattle.std.proofs.lemmas.Bool.{cases_eq, eq-eqb, ne_eqb, cases_Bool, false≢true, cases_lt, both_ways}
+use Rattle.std.proofs.Common.{◌≡◌, ℕ, ◌≤◌, Bool, true, false, cond, ◌⊎◌, List, [], ◌∷◌, ◌++◌, map, length, take, drop, sym, refl, ap, ◌∙◌, subst, inl, inr, ⊎_elim, append_assoc, append-nil, arith, length-take, Ok, Err}
+use Rattle.std.proofs.lemmas.List.{take_at}
+use Rattle.std.proofs.lemmas.Bool.{eq-eqb, ne_eqb, cases_Bool, false≢true, cases_lt, both_ways}
 use Rattle.group.specs.Filling.{zeros}
 use Rattle.layout.specs.Blocks.{missing_count}
 use Rattle.group.specs.Group.{member}
@@ -12,16 +12,12 @@ use Rattle.controller.specs.declared.calls.Call.{Call}
 use Rattle.controller.specs.declared.calls.Call.TheVariants.{MakeGroup, DeleteGroup, MakeVolume, DeleteVolume, WriteControl, Size, Map, Read, Write}
 use Rattle.controller.specs.declared.calls.Value.{Value}
 use Rattle.controller.specs.declared.calls.Value.TheVariants.{Done}
-use Rattle.controller.specs.declared.calls.Answer.{Answer}
-use Rattle.controller.specs.declared.calls.Answer.TheVariants.{Accepted, Refused}
-use Rattle.controller.specs.State.{Entry, State, after_answer, state_of, put, entered}
+use Rattle.controller.specs.State.{Answer, Entry, State, after_answer, state_of, put, entered}
 use Rattle.controller.specs.Right.{Answers, RightFor, over, scene_at}
 use Rattle.controller.specs.Law.{Law, ReadAt, WroteAt, Makes, Made, Untouched, LastWrite, FirstZeros, LostExactly, accepted, refused_as_lost}
 use Rattle.controller.proofs.Zeros.{zero_whole}
 use Rattle.controller.proofs.Keeping.{state_snoc}
-
-take_append_exact : (n : ℕ) (xs ys : List ℕ) → length xs ≡ n → take n (xs ++ ys) ≡ xs
-take_append_exact n xs ys e = let l : n ≤ length xs = omega arith in let k : length xs ≤ n = omega arith in take-append-le n xs ys l ∙ take_all n xs k
+use Rattle.controller.proofs.Writing.{put_same, put_other}
 
 -- whether a block is lost is known
 decide_lost : (broken : ℕ → Bool) (c : Configuration) (v b : ℕ) → LostAt broken c v b ⊎ (LostAt broken c v b → ⊥)
@@ -38,21 +34,9 @@ decide_lost broken c v b =
 abbrev pub content : State → Spot → List ℕ
 content st p = st.contents p.group p.block
 
-put_other : (f : ℕ → ℕ → List ℕ) (s : Spot) (x : List ℕ) (p : Spot) → (s ≡ p → ⊥) → put f s x p.group p.block ≡ f p.group p.block
-put_other f s x p ne =
-    ⊎_elim
-    (λ (e : p.group ≡ s.group).
-    ⊎_elim
-    (λ (h : p.block ≡ s.block). absurd (ne (ap (λ (g : ℕ). record { group = g; block = s.block }) (sym e) ∙ ap (λ (b : ℕ). record { group = p.group; block = b }) (sym h))))
-    (λ (h : p.block ≡ s.block → ⊥). ap (λ (b : Bool). cond (b && eqb p.block s.block) x (f p.group p.block)) (eq-eqb _ _ e) ∙ ap (λ (b : Bool). cond (true && b) x (f p.group p.block)) (ne_eqb _ _ h))
-    (cases_eq p.block s.block))
-    (λ (e : p.group ≡ s.group → ⊥). ap (λ (b : Bool). cond (b && eqb p.block s.block) x (f p.group p.block)) (ne_eqb _ _ e))
-    (cases_eq p.group s.group)
-
-put_here : (f : ℕ → ℕ → List ℕ) (s : Spot) (x : List ℕ) (p : Spot) → s ≡ p → put f s x p.group p.block ≡ x
-put_here f s x p e =
-    ap (λ (b : Bool). cond (b && eqb p.block s.block) x (f p.group p.block)) (eq-eqb _ _ (ap (λ (z : Spot). z.group) (sym e)))
-    ∙ ap (λ (b : Bool). cond (true && b) x (f p.group p.block)) (eq-eqb _ _ (ap (λ (z : Spot). z.block) (sym e)))
+put_away : (f : ℕ → ℕ → List ℕ) (s : Spot) (x : List ℕ) (p : Spot) → (s ≡ p → ⊥) → put f s x p.group p.block ≡ f p.group p.block
+put_away f s x p ne =
+    put_other f s x p.group p.block (λ e. ne (ap (λ (g : ℕ). record { group = g; block = s.block }) (sym e.0) ∙ ap (λ (b : ℕ). record { group = p.group; block = b }) (sym e.1)))
 
 -- an entry that neither writes the block nor makes its group leaves it
 quiet_call : (st : State) (p : Spot) (buffer : List ℕ) (call : Call) →
@@ -65,13 +49,13 @@ quiet_call st p buffer (WriteControl v on) w m = refl
 quiet_call st p buffer (Size v) w m = refl
 quiet_call st p buffer (Map v b) w m = refl
 quiet_call st p buffer (Read v b) w m = refl
-quiet_call st p buffer (Write v b) w m = put_other st.contents (spot_of st.configuration v b) (take 512 buffer) p (w v b refl)
+quiet_call st p buffer (Write v b) w m = put_away st.contents (spot_of st.configuration v b) (take 512 buffer) p (w v b refl)
 
 quiet_answer : (st : State) (p : Spot) (buffer : List ℕ) (call : Call) (x : Answer) →
     (accepted x ≡ true → (v b : ℕ) → call ≡ Write v b → spot_of st.configuration v b ≡ p → ⊥) → (accepted x ≡ true → Makes p.group call → ⊥) →
     content (after_answer st call buffer x) p ≡ content st p
-quiet_answer st p buffer call (Accepted w) no_write no-make = quiet_call st p buffer call (no_write refl) (no-make refl)
-quiet_answer st p buffer call (Refused x) no_write no-make = refl
+quiet_answer st p buffer call (Ok w) no_write no-make = quiet_call st p buffer call (no_write refl) (no-make refl)
+quiet_answer st p buffer call (Err x) no_write no-make = refl
 
 quiet : (past : List Entry) (e : Entry) (p : Spot) → (WroteAt past e p → ⊥) → (Made e p.group → ⊥) → content (state_of (past ++ e ∷ [])) p ≡ content (state_of past) p
 quiet past e p w m =
@@ -94,12 +78,12 @@ quiet_all past (e ∷ mid) p u =
 
 -- an accepted answer
 by_accepted : (cs : List Check) (v : Value) (out : List ℕ) (e : Entry) (x : Answer) → Answers cs v out e x → accepted x ≡ true → AllHold cs × (e.left ≡ over out e.buffer)
-by_accepted cs v out e (Accepted w) a t = (a.0, a.2)
-by_accepted cs v out e (Refused x) a t = absurd (false≢true t)
+by_accepted cs v out e (Ok w) a t = (a.0, a.2)
+by_accepted cs v out e (Err x) a t = absurd (false≢true t)
 
 contents_accepted : (st : State) (call : Call) (buffer : List ℕ) (x : Answer) → accepted x ≡ true → (after_answer st call buffer x).contents ≡ entered st call buffer
-contents_accepted st call buffer (Accepted w) t = refl
-contents_accepted st call buffer (Refused x) t = absurd (false≢true t)
+contents_accepted st call buffer (Ok w) t = refl
+contents_accepted st call buffer (Err x) t = absurd (false≢true t)
 
 -- what an accepted call enters at the block p
 content_entered : (past : List Entry) (e : Entry) (p : Spot) (call : Call) → e.call ≡ call → accepted e.answer ≡ true →
@@ -129,7 +113,7 @@ module _ (count : ℕ) (capacity : ℕ → ℕ) (log : List Entry) (law : Law co
       let same : content (state_of (past ++ w ∷ mid)) p ≡ x = ap (λ (l : List Entry). content (state_of l) p) (sym then) ∙ quiet_all (past ++ w ∷ []) mid p u ∙ c in
       ap (take 512) (read_gave (past ++ w ∷ mid) r rest p q a)
       ∙ ap (λ (y : List ℕ). take 512 (over y r.buffer)) same
-      ∙ take_append_exact 512 x (drop (length x) r.buffer) long
+      ∙ take_at x (drop (length x) r.buffer) 512 long
 
   pub last_write : LastWrite log
   last_write past w mid r rest p q wrote u a =
@@ -138,7 +122,8 @@ module _ (count : ℕ) (capacity : ℕ → ℕ) (log : List Entry) (law : Law co
       (right_at past w (mid ++ r ∷ rest) (q ∙ append_assoc past (w ∷ mid) (r ∷ rest)) (Write wrote.volume wrote.block) wrote.asked) wrote.taken).0.1.0 in
       read_since past w mid r rest p (take 512 w.buffer) q
       (content_entered past w p (Write wrote.volume wrote.block) wrote.asked wrote.taken
-      ∙ put_here (state_of past).contents (spot_of (state_of past).configuration wrote.volume wrote.block) (take 512 w.buffer) p wrote.here)
+      ∙ put_same (state_of past).contents (spot_of (state_of past).configuration wrote.volume wrote.block) (take 512 w.buffer) p.group p.block
+      (ap (λ (s : Spot). s.group) (sym wrote.here)) (ap (λ (s : Spot). s.block) (sym wrote.here)))
       (simp length-take (omega arith)) u a
 
   makes_zeros : (past : List Entry) (w : Entry) (p : Spot) (call : Call) → w.call ≡ call → accepted w.answer ≡ true → Makes p.group call → content (state_of (past ++ w ∷ [])) p ≡ zeros
@@ -161,16 +146,16 @@ module _ (count : ℕ) (capacity : ℕ → ℕ) (log : List Entry) (law : Law co
   only_lost : (past : List Entry) (e : Entry) (v b : ℕ) (x : Answer) →
       Answers (read_checks (scene_at count capacity (state_of past) e) v b (length e.buffer)) Done (content (state_of past) (spot_of (state_of past).configuration v b)) e x →
       AllHold (block_checks (state_of past).configuration v b (length e.buffer)) → refused_as_lost x → LostAt e.after (state_of past).configuration v b
-  only_lost past e v b (Accepted w) a h z = absurd z
-  only_lost past e v b (Refused x) a h z =
+  only_lost past e v b (Ok w) a h z = absurd z
+  only_lost past e v b (Err x) a h z =
       ⊎_elim (λ l. absurd (l.0 h.0)) (λ f. ⊎_elim (λ l. absurd (l.0 h.1.0)) (λ f. ⊎_elim (λ l. absurd (l.0 h.1.1.0)) (λ f. ⊎_elim
       (λ l. ⊎_elim (λ lost. lost) (λ n. absurd (l.0 n)) (decide_lost e.after (state_of past).configuration v b)) (λ f. absurd f.1) f.1) f.1) f.1) a.0
 
   always_lost : (past : List Entry) (e : Entry) (v b : ℕ) (x : Answer) →
       Answers (read_checks (scene_at count capacity (state_of past) e) v b (length e.buffer)) Done (content (state_of past) (spot_of (state_of past).configuration v b)) e x →
       AllHold (block_checks (state_of past).configuration v b (length e.buffer)) → LostAt e.after (state_of past).configuration v b → refused_as_lost x
-  always_lost past e v b (Accepted w) a h z = absurd (a.0.1.1.1.0 z)
-  always_lost past e v b (Refused x) a h z =
+  always_lost past e v b (Ok w) a h z = absurd (a.0.1.1.1.0 z)
+  always_lost past e v b (Err x) a h z =
       ⊎_elim (λ l. absurd (l.0 h.0)) (λ f. ⊎_elim (λ l. absurd (l.0 h.1.0)) (λ f. ⊎_elim (λ l. absurd (l.0 h.1.1.0)) (λ f. ⊎_elim
       (λ l. l.1) (λ f. absurd f.1) f.1) f.1) f.1) a.0
 

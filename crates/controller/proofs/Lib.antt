@@ -9,3 +9,4 @@ pub mod Traces
 pub mod Stepping
 pub mod Performing
 pub mod Running
+pub mod Driveless

@@ -20,6 +20,7 @@ use Rattle.array.specs.Places.{width_of, size_of, user_block}
 use Rattle.array.specs.Tables.{SoundConfig}
 use Rattle.array.specs.Checks.{AllHold, FirstNo, EachExtent, GroupFields, FieldsFor, scene, group_checks}
 use Rattle.array.specs.Calls.{OnDrives, Holds}
+use Rattle.array.proofs.Tabling.{configured_other}
 use Rattle.controller.specs.State.{State, put_all, users}
 use Rattle.controller.specs.Law.{Held, WholeContents}
 use Rattle.controller.proofs.Zeros.{zero_whole, new_member, zero_new}
@@ -28,16 +29,6 @@ use Rattle.controller.proofs.Keeping.{row_frame}
 -- a table with one entry set -----------------------------------------------------------------------------------------------
 
 module _ {A : Type 0} (xs : List (Option A)) (g : ℕ) (x : Option A) where
-  pub configured_here : g < length xs → is_some x ≡ true → Configured (set xs g x) g
-  configured_here l e = (omega (arith, length-set xs g x), ap is_some (get_or-set_same xs g x None l) ∙ e)
-
-  module _ (h : ℕ) (ne : h ≡ g → ⊥) where
-    pub configured_other : Configured xs h → Configured (set xs g x) h
-    configured_other c = (omega (arith, length-set xs g x, c.0), ap is_some (get_or-set_other xs g h x None ne) ∙ c.1)
-
-    pub configured_back : Configured (set xs g x) h → Configured xs h
-    configured_back c = (omega (arith, length-set xs g x, c.0), ap is_some (sym (get_or-set_other xs g h x None ne)) ∙ c.1)
-
   -- what holds of the new entry and of the others holds of all
   pub each_entry : (P : ℕ → Option A → Type 0) → (g < length xs → is_some x ≡ true → P g x) → ((h : ℕ) → (h ≡ g → ⊥) → Configured xs h → P h (get_or xs h None)) →
       (h : ℕ) → Configured (set xs g x) h → P h (get_or (set xs g x) h None)
@@ -47,16 +38,10 @@ module _ {A : Type 0} (xs : List (Option A)) (g : ℕ) (x : Option A) where
       let l : g < length xs = omega (arith, length-set xs g x, c.0) in
       let s : get_or (set xs g x) h None ≡ x = ap (λ (j : ℕ). get_or (set xs g x) j None) e ∙ get_or-set_same xs g x None l in
       subst (λ (o : Option A). P h o) (sym s) (subst (λ (j : ℕ). P j x) (sym e) (here l (ap is_some (sym s) ∙ c.1))))
-      (λ (ne : h ≡ g → ⊥). subst (λ (o : Option A). P h o) (sym (get_or-set_other xs g h x None ne)) (other h ne (configured_back h ne c)))
+      (λ (ne : h ≡ g → ⊥). subst (λ (o : Option A). P h o) (sym (get_or-set_other xs g h x None ne)) (other h ne (configured_other xs g x h ne c)))
       (cases_eq h g)
 
 module _ (c : Configuration) (g : ℕ) (x : Option GroupConfig) where
-  pub group_here : g < length c.groups → group_at (with_group c g x) g ≡ or_else no_group x
-  group_here l = ap (or_else no_group) (get_or-set_same c.groups g x None l)
-
-  pub group_other : (h : ℕ) → (h ≡ g → ⊥) → group_at (with_group c g x) h ≡ group_at c h
-  group_other h ne = ap (or_else no_group) (get_or-set_other c.groups g h x None ne)
-
   -- the same of groups
   pub each_group : (P : ℕ → GroupConfig → Type 0) → (g < length c.groups → is_some x ≡ true → P g (or_else no_group x)) →
       ((h : ℕ) → (h ≡ g → ⊥) → Configured c.groups h → P h (group_at c h)) →

@@ -1,138 +1,65 @@
--- Each call, by what the array answers to it. Assumes nothing.
-use Rattle.std.proofs.Common.{◌≡◌, ℕ, ◌<◌, ◌≤◌, Bool, true, false, List, length, get_or, take, Some, None, Ok, Err, Option, Result, sym, refl, ap, ◌∙◌, subst, ⊎_elim, arith, length-take, Bor}
+-- The calls that try drives, by what the array answers to them. Assumes nothing.
+use Rattle.std.proofs.Common.{◌≡◌, ℕ, ◌<◌, ◌≤◌, true, List, length, get_or, take, Some, None, Ok, Err, Option, Result, unwrap_or, sym, refl, ap, ◌∙◌, subst, ⊎_elim, arith, length-take, Bor}
 use Rattle.std.proofs.lemmas.List.{get_or-take, get_or_past}
 use Rattle.std.proofs.lemmas.Bool.{both_ways, cases_lt}
 use Rattle.bus.specs.Drives.{Drive, at}
 use Rattle.layout.specs.Blocks.{Whole}
 use Rattle.layout.specs.declared.extent.ExtentRow.{ExtentRow}
-use Rattle.array.specs.declared.asking.DrivePlace.{DrivePlace}
-use Rattle.array.specs.declared.volume.Run.{Run}
 use Rattle.array.specs.declared.refusal.Fault.{Fault}
 use Rattle.array.specs.declared.refusal.Fault.TheVariants.{OfRow, OfBlock}
-use Rattle.array.specs.declared.refusal.Refused.{Refused as TheRefused}
+use Rattle.array.specs.declared.refusal.Refused.{Refused}
+use Rattle.array.specs.declared.tables.Array.{Array}
 use Rattle.array.specs.Refusals.{of_drives}
-use Rattle.array.specs.Configuration.{Configuration, is_some, with_group, with_volume, new_volume, controlled}
-use Rattle.array.specs.Places.{spot_of, blocks_of, mapped, LostRowAt}
+use Rattle.array.specs.Arrays.{config}
+use Rattle.array.specs.Configuration.{Configuration, is_some}
+use Rattle.array.specs.Places.{spot_of, LostRowAt}
 use Rattle.array.specs.Tables.{SoundConfig}
-use Rattle.array.specs.Checks.{FirstNo, scene, group_checks, delete_group_checks, volume_checks, delete_volume_checks, control_checks, size_checks, map_checks, read_checks, write_checks}
-use Rattle.array.specs.Calls.{OnDrives, Asked, Configures, Blamed, MakesGroup, Unfilled, ReadsBlock, NotGiven, WritesBlock, NotTaken}
+use Rattle.array.specs.Checks.{FirstNo, scene, group_checks, read_checks, write_checks}
+use Rattle.array.specs.Calls.{OnDrives, Blamed, MakesGroup, Unfilled, ReadsBlock, NotGiven, WritesBlock, NotTaken}
 use Rattle.controller.specs.declared.calls.Call.{Call}
 use Rattle.controller.specs.declared.calls.Call.TheVariants.{MakeGroup, DeleteGroup, MakeVolume, DeleteVolume, WriteControl, Size, Map, Read, Write}
-use Rattle.controller.specs.declared.calls.Value.TheVariants.{Done, Blocks, At}
-use Rattle.controller.specs.declared.calls.Answer.TheVariants.{Accepted, Refused}
-use Rattle.controller.specs.State.{State}
-use Rattle.controller.specs.Steps.{answer_by, answered}
+use Rattle.controller.specs.State.{State, state_of}
 use Rattle.controller.specs.Right.{NamesExtent, NamesMember}
-use Rattle.controller.specs.Law.{Held, WholeContents, entry}
-use Rattle.controller.proofs.Stepping.{Stepped, still, plain_blamed}
+use Rattle.controller.specs.Law.{Held, WholeContents, Step, entry}
+use Rattle.controller.proofs.Stepping.{answered, Stepped, still, behind_by, left_by}
 use Rattle.controller.proofs.Keeping.{lies_frame, held_frame}
-use Rattle.controller.proofs.Making.{held_deleted, whole_deleted, lies_deleted, held_make, whole_make, lies_make, held_unfilled, unassigned_by, passed}
+use Rattle.controller.proofs.Making.{held_make, whole_make, lies_make, held_unfilled, unassigned_by, passed}
 use Rattle.controller.proofs.Spots.{spot_inside}
+use Rattle.controller.proofs.Traces.{sound_kept}
 use Rattle.controller.proofs.Writing.{read_gives, held_write, held_left, whole_write}
 
--- calls of which the drives know nothing -----------------------------------------------------------------------------------
+-- the block of a volume set that a write names
+abbrev written : Call → Option (ℕ × ℕ)
+written (MakeGroup g code k es) = None
+written (DeleteGroup g) = None
+written (MakeVolume v rs) = None
+written (DeleteVolume v) = None
+written (WriteControl v on) = None
+written (Size v) = None
+written (Map v b) = None
+written (Read v b) = None
+written (Write v b) = Some (v, b)
 
-module _ (st : State) (m : List Drive) (lies : OnDrives m st.configuration) (whole : WholeContents st) (held : Held m st) (buffer : List ℕ) where
-  c : Configuration
-  c = st.configuration
-
-  pub group_deleted : {U : Type 0} (g : ℕ) (z : Configuration) (r : Result U TheRefused) → Configures (delete_group_checks st.configuration g) st.configuration z (with_group st.configuration g None) r →
-      Stepped st (entry (DeleteGroup g) buffer (answered r) buffer m m) m m z
-  group_deleted g z (Ok u) a =
-      still st (DeleteGroup g) buffer m (Accepted Done) z (a.0, refl, refl) tt a.1 (lies_deleted st g m lies) (whole_deleted st g whole) (held_deleted st g m held)
-  group_deleted g z (Err x) a =
-      still st (DeleteGroup g) buffer m (Refused x) z (a.0, refl) (plain_blamed (delete_group_checks st.configuration g) x (refl, (refl, tt)) a.0 a.1, a.1) a.2 lies whole held
-
-  pub volume_made : {U : Type 0} (v : ℕ) (rs : Bor (List Run)) (z : Configuration) (r : Result U TheRefused) →
-      Configures (volume_checks st.configuration v rs.now) st.configuration z (with_volume st.configuration v (new_volume rs.now)) r →
-      Stepped st (entry (MakeVolume v rs) buffer (answered r) buffer m m) m m z
-  volume_made v rs z (Ok u) a = still st (MakeVolume v rs) buffer m (Accepted Done) z (a.0, refl, refl) tt a.1 lies whole held
-  volume_made v rs z (Err x) a =
-      still st (MakeVolume v rs) buffer m (Refused x) z (a.0, refl) (plain_blamed (volume_checks st.configuration v rs.now) x (refl, (refl, (refl, (refl, tt)))) a.0 a.1, a.1) a.2 lies whole held
-
-  pub volume_deleted : {U : Type 0} (v : ℕ) (z : Configuration) (r : Result U TheRefused) → Configures (delete_volume_checks st.configuration v) st.configuration z (with_volume st.configuration v None) r →
-      Stepped st (entry (DeleteVolume v) buffer (answered r) buffer m m) m m z
-  volume_deleted v z (Ok u) a = still st (DeleteVolume v) buffer m (Accepted Done) z (a.0, refl, refl) tt a.1 lies whole held
-  volume_deleted v z (Err x) a =
-      still st (DeleteVolume v) buffer m (Refused x) z (a.0, refl) (plain_blamed (delete_volume_checks st.configuration v) x (refl, tt) a.0 a.1, a.1) a.2 lies whole held
-
-  pub writes_controlled : {U : Type 0} (v : Option ℕ) (on : Bool) (z : Configuration) (r : Result U TheRefused) → Configures (control_checks st.configuration v) st.configuration z (controlled st.configuration v on) r →
-      Stepped st (entry (WriteControl v on) buffer (answered r) buffer m m) m m z
-  writes_controlled None on z (Ok u) a = still st (WriteControl None on) buffer m (Accepted Done) z (a.0, refl, refl) tt a.1 lies whole held
-  writes_controlled None on z (Err x) a = absurd a.0
-  writes_controlled (Some v) on z (Ok u) a = still st (WriteControl (Some v) on) buffer m (Accepted Done) z (a.0, refl, refl) tt a.1 lies whole held
-  writes_controlled (Some v) on z (Err x) a =
-      still st (WriteControl (Some v) on) buffer m (Refused x) z (a.0, refl) (plain_blamed (control_checks st.configuration (Some v)) x (refl, tt) a.0 a.1, a.1) a.2 lies whole held
-
-  pub size_told : (v : ℕ) (r : Result ℕ TheRefused) → Asked (size_checks st.configuration v) (λ n. n ≡ blocks_of st.configuration v) r →
-      Stepped st (entry (Size v) buffer (answer_by Blocks r) buffer m m) m m st.configuration
-  size_told v (Ok n) a = still st (Size v) buffer m (Accepted (Blocks n)) st.configuration (a.0, ap Blocks a.1, refl) tt refl lies whole held
-  size_told v (Err x) a = still st (Size v) buffer m (Refused x) st.configuration (a.0, refl) (plain_blamed (size_checks st.configuration v) x (refl, tt) a.0 a.1, a.1) refl lies whole held
-
-  pub place_told : (v b : ℕ) (r : Result DrivePlace TheRefused) →
-      Asked (map_checks st.configuration v b) (λ p. (p.drive ≡ (mapped st.configuration v b).drive) × (p.block ≡ (mapped st.configuration v b).at)) r →
-      Stepped st (entry (Map v b) buffer (answer_by (λ p. At p.drive p.block) r) buffer m m) m m st.configuration
-  place_told v b (Ok p) a =
-      still st (Map v b) buffer m (Accepted (At p.drive p.block)) st.configuration
-      (a.0, ap (λ (d : ℕ). At d p.block) a.1.0 ∙ ap (At (mapped st.configuration v b).drive) a.1.1, refl) tt refl lies whole held
-  place_told v b (Err x) a = still st (Map v b) buffer m (Refused x) st.configuration (a.0, refl) (plain_blamed (map_checks st.configuration v b) x (refl, (refl, tt)) a.0 a.1, a.1) refl lies whole held
-
--- calls that try drives --------------------------------------------------------------------------------------------------------
-
--- what a write names
-abbrev is_write : Call → Bool
-is_write (MakeGroup g code k es) = false
-is_write (DeleteGroup g) = false
-is_write (MakeVolume v rs) = false
-is_write (DeleteVolume v) = false
-is_write (WriteControl v on) = false
-is_write (Size v) = false
-is_write (Map v b) = false
-is_write (Read v b) = false
-is_write (Write v b) = true
-
-abbrev named_volume : Call → ℕ
-named_volume (MakeGroup g code k es) = 0
-named_volume (DeleteGroup g) = 0
-named_volume (MakeVolume v rs) = 0
-named_volume (DeleteVolume v) = 0
-named_volume (WriteControl v on) = 0
-named_volume (Size v) = 0
-named_volume (Map v b) = 0
-named_volume (Read v b) = v
-named_volume (Write v b) = v
-
-abbrev named_block : Call → ℕ
-named_block (MakeGroup g code k es) = 0
-named_block (DeleteGroup g) = 0
-named_block (MakeVolume v rs) = 0
-named_block (DeleteVolume v) = 0
-named_block (WriteControl v on) = 0
-named_block (Size v) = 0
-named_block (Map v b) = 0
-named_block (Read v b) = b
-named_block (Write v b) = b
-
-no_write : (call : Call) (v b : ℕ) → is_write call ≡ false → call ≡ Write v b → ⊥
-no_write call v b f q = both_ways (is_write call) f (ap is_write q)
+no_write : (call : Call) (v b : ℕ) → written call ≡ None → call ≡ Write v b → ⊥
+no_write call v b f q = both_ways (is_some (written call)) (ap is_some f) (ap (λ (k : Call). is_some (written k)) q)
 
 -- where drives are named, they have to do with the refusal
-tried : (x : TheRefused) (f : Fault) → Blamed x → x.fault ≡ Some f → of_drives x.refusal ≡ true
+tried : (x : Refused) (f : Fault) → Blamed x → x.fault ≡ Some f → of_drives x.refusal ≡ true
 tried x f b e = sym b ∙ ap is_some e
 
 module _ (st : State) (m n : List Drive) (sound : SoundConfig st.configuration) (lies : OnDrives m st.configuration) (whole : WholeContents st) (held : Held m st) where
   -- making a group
-  unmade : (g code k : ℕ) (es : Bor (List ExtentRow)) (buffer : List ℕ) (z : Configuration) (x : TheRefused) (f : Option Fault) → x.fault ≡ f →
+  unmade : (g code k : ℕ) (es : Bor (List ExtentRow)) (buffer : List ℕ) (z : Configuration) (x : Refused) (f : Option Fault) → x.fault ≡ f →
       FirstNo (group_checks (scene m n st.configuration) g code k es.now) x.refusal → z ≡ st.configuration → Blamed x → Unfilled m n g es.now f →
-      Stepped st (entry (MakeGroup g code k es) buffer (Refused x) buffer m n) m n z
+      Stepped st (entry (MakeGroup g code k es) buffer (Err x) buffer m n) m n z
   unmade g code k es buffer z x None e first same blamed left =
-      subst (λ (o : List Drive). FirstNo (group_checks (scene m o st.configuration) g code k es.now) x.refusal → Stepped st (entry (MakeGroup g code k es) buffer (Refused x) buffer m o) m o z) (sym left)
-      (λ first. still st (MakeGroup g code k es) buffer m (Refused x) z (first, refl)
+      subst (λ (o : List Drive). FirstNo (group_checks (scene m o st.configuration) g code k es.now) x.refusal → Stepped st (entry (MakeGroup g code k es) buffer (Err x) buffer m o) m o z) (sym left)
+      (λ first. still st (MakeGroup g code k es) buffer m (Err x) z (first, refl)
       (blamed, subst (NamesExtent (scene m m st.configuration) g es.now) (sym e) tt) same lies whole held)
       first
-  unmade g code k es buffer z x (Some (OfRow h r i d b)) e first same blamed left =
+  unmade g code k es buffer z x (Some (OfRow h r i p)) e first same blamed left =
       let frame = left.1 in
-      let drives : of_drives x.refusal ≡ true = tried x (OfRow h r i d b) blamed e in
+      let drives : of_drives x.refusal ≡ true = tried x (OfRow h r i p) blamed e in
       record {
         right = (first, refl);
         blames = (
@@ -149,9 +76,9 @@ module _ (st : State) (m n : List Drive) (sound : SoundConfig st.configuration) 
         whole = whole;
         held = held_unfilled m n st es.now sound (unassigned_by m n st.configuration g code k es.now x.refusal first drives) frame held;
       }
-  unmade g code k es buffer z x (Some (OfBlock v a h r i d b)) e first same blamed left = absurd left
+  unmade g code k es buffer z x (Some (OfBlock o h r i p)) e first same blamed left = absurd left
 
-  pub group_made : {U : Type 0} (g code k : ℕ) (es : Bor (List ExtentRow)) (buffer : List ℕ) (z : Configuration) (r : Result U TheRefused) → MakesGroup m n st.configuration z g code k es.now r →
+  pub group_made : {U : Type 0} (g code k : ℕ) (es : Bor (List ExtentRow)) (buffer : List ℕ) (z : Configuration) (r : Result U Refused) → MakesGroup m n st.configuration z g code k es.now r →
       Stepped st (entry (MakeGroup g code k es) buffer (answered r) buffer m n) m n z
   group_made g code k es buffer z (Ok u) a =
       let frame = a.2.frame in
@@ -170,15 +97,15 @@ module _ (st : State) (m n : List Drive) (sound : SoundConfig st.configuration) 
   group_made g code k es buffer z (Err x) a = unmade g code k es buffer z x x.fault refl a.0 a.1 a.2 a.3
 
   -- reading
-  unread : (v b : ℕ) (was is : List ℕ) (x : TheRefused) (f : Option Fault) → x.fault ≡ f → FirstNo (read_checks (scene m n st.configuration) v b (length was)) x.refusal → is ≡ was → Blamed x →
-      NotGiven m n st.configuration v b f → Stepped st (entry (Read v b) was (Refused x) is m n) m n st.configuration
+  unread : (v b : ℕ) (was is : List ℕ) (x : Refused) (f : Option Fault) → x.fault ≡ f → FirstNo (read_checks (scene m n st.configuration) v b (length was)) x.refusal → is ≡ was → Blamed x →
+      NotGiven m n st.configuration v b f → Stepped st (entry (Read v b) was (Err x) is m n) m n st.configuration
   unread v b was is x None e first same blamed left =
-      subst (λ (o : List Drive). FirstNo (read_checks (scene m o st.configuration) v b (length was)) x.refusal → Stepped st (entry (Read v b) was (Refused x) is m o) m o st.configuration) (sym left)
-      (λ first. subst (λ (bytes : List ℕ). Stepped st (entry (Read v b) was (Refused x) bytes m m) m m st.configuration) (sym same)
-      (still st (Read v b) was m (Refused x) st.configuration (first, refl) (blamed, subst (NamesMember (scene m m st.configuration) v b) (sym e) tt) refl lies whole held))
+      subst (λ (o : List Drive). FirstNo (read_checks (scene m o st.configuration) v b (length was)) x.refusal → Stepped st (entry (Read v b) was (Err x) is m o) m o st.configuration) (sym left)
+      (λ first. subst (λ (bytes : List ℕ). Stepped st (entry (Read v b) was (Err x) bytes m m) m m st.configuration) (sym same)
+      (still st (Read v b) was m (Err x) st.configuration (first, refl) (blamed, subst (NamesMember (scene m m st.configuration) v b) (sym e) tt) refl lies whole held))
       first
-  unread v b was is x (Some (OfRow h r i d k)) e first same blamed left = absurd left
-  unread v b was is x (Some (OfBlock w a h r i d k)) e first same blamed left =
+  unread v b was is x (Some (OfRow h r i p)) e first same blamed left = absurd left
+  unread v b was is x (Some (OfBlock o h r i p)) e first same blamed left =
       let frame = left.1 in
       let who = left.0 in
       record {
@@ -191,14 +118,14 @@ module _ (st : State) (m n : List Drive) (sound : SoundConfig st.configuration) 
         count = frame.count;
         sizes = frame.sizes;
         stays = frame.stays;
-        spared = record { untried = λ t. absurd (t (tried x (OfBlock w a h r i d k) blamed e)); unwritten = λ y z q l. absurd (no_write (Read v b) y z refl q) };
+        spared = record { untried = λ t. absurd (t (tried x (OfBlock o h r i p) blamed e)); unwritten = λ y z q l. absurd (no_write (Read v b) y z refl q) };
         becomes = refl;
         lies = lies_frame m n frame st.configuration lies;
         whole = whole;
         held = held_frame m n frame st sound (λ g i r has l y. y) held;
       }
 
-  pub block_read : {U : Type 0} (v b : ℕ) (was is : List ℕ) (r : Result U TheRefused) → ReadsBlock m n st.configuration v b was is r →
+  pub block_read : {U : Type 0} (v b : ℕ) (was is : List ℕ) (r : Result U Refused) → ReadsBlock m n st.configuration v b was is r →
       Stepped st (entry (Read v b) was (answered r) is m n) m n st.configuration
   block_read v b was is (Ok u) a =
       let frame = a.1.frame in
@@ -220,20 +147,20 @@ module _ (st : State) (m n : List Drive) (sound : SoundConfig st.configuration) 
   -- writing
   lost_there : (v b w k : ℕ) → Write v b ≡ Write w k → LostRowAt (λ d. (at m d).broken) st.configuration w k → LostRowAt (λ d. (at m d).broken) st.configuration v b
   lost_there v b w k q l =
-      subst (λ (x : ℕ). LostRowAt (λ d. (at m d).broken) st.configuration x b) (sym (ap named_volume q))
-      (subst (λ (y : ℕ). LostRowAt (λ d. (at m d).broken) st.configuration w y) (sym (ap named_block q)) l)
+      let e : (v, b) ≡ (w, k) = ap (λ (x : Call). unwrap_or (written x) (0, 0)) q in
+      subst (λ (p : ℕ × ℕ). LostRowAt (λ d. (at m d).broken) st.configuration p.0 p.1) (sym e) l
 
-  unwritten : (v b : ℕ) (bytes : List ℕ) (x : TheRefused) (f : Option Fault) → x.fault ≡ f → FirstNo (write_checks (scene m n st.configuration) v b (length bytes)) x.refusal → Blamed x →
-      NotTaken m n st.configuration v b f → Stepped st (entry (Write v b) bytes (Refused x) bytes m n) m n st.configuration
+  unwritten : (v b : ℕ) (bytes : List ℕ) (x : Refused) (f : Option Fault) → x.fault ≡ f → FirstNo (write_checks (scene m n st.configuration) v b (length bytes)) x.refusal → Blamed x →
+      NotTaken m n st.configuration v b f → Stepped st (entry (Write v b) bytes (Err x) bytes m n) m n st.configuration
   unwritten v b bytes x None e first blamed left =
-      subst (λ (o : List Drive). FirstNo (write_checks (scene m o st.configuration) v b (length bytes)) x.refusal → Stepped st (entry (Write v b) bytes (Refused x) bytes m o) m o st.configuration) (sym left)
-      (λ first. still st (Write v b) bytes m (Refused x) st.configuration (first, refl) (blamed, subst (NamesMember (scene m m st.configuration) v b) (sym e) tt) refl lies whole held)
+      subst (λ (o : List Drive). FirstNo (write_checks (scene m o st.configuration) v b (length bytes)) x.refusal → Stepped st (entry (Write v b) bytes (Err x) bytes m o) m o st.configuration) (sym left)
+      (λ first. still st (Write v b) bytes m (Err x) st.configuration (first, refl) (blamed, subst (NamesMember (scene m m st.configuration) v b) (sym e) tt) refl lies whole held)
       first
-  unwritten v b bytes x (Some (OfRow h r i d k)) e first blamed left = absurd left
-  unwritten v b bytes x (Some (OfBlock w a h r i d k)) e first blamed left =
+  unwritten v b bytes x (Some (OfRow h r i p)) e first blamed left = absurd left
+  unwritten v b bytes x (Some (OfBlock o h r i p)) e first blamed left =
       let frame = left.1.frame in
       let who = left.0 in
-      let drives : of_drives x.refusal ≡ true = tried x (OfBlock w a h r i d k) blamed e in
+      let drives : of_drives x.refusal ≡ true = tried x (OfBlock o h r i p) blamed e in
       let p = spot_inside sound v b (passed (passed (passed first drives refl).1 drives refl).1 drives refl).0 in
       record {
         right = (first, refl);
@@ -262,7 +189,7 @@ module _ (st : State) (m n : List Drive) (sound : SoundConfig st.configuration) 
         (cases_lt j 512);
   }
 
-  pub block_written : {U : Type 0} (v b : ℕ) (bytes : List ℕ) → ((j : ℕ) → get_or bytes j 0 < 256) → (r : Result U TheRefused) → WritesBlock m n st.configuration v b bytes r →
+  pub block_written : {U : Type 0} (v b : ℕ) (bytes : List ℕ) → ((j : ℕ) → get_or bytes j 0 < 256) → (r : Result U Refused) → WritesBlock m n st.configuration v b bytes r →
       Stepped st (entry (Write v b) bytes (answered r) bytes m n) m n st.configuration
   block_written v b bytes fit (Ok u) a =
       let frame = a.1.frame in
@@ -282,3 +209,23 @@ module _ (st : State) (m n : List Drive) (sound : SoundConfig st.configuration) 
         held = held_write st sound g p.0 q p.1 m n whole held bytes a.1;
       }
   block_written v b bytes fit (Err x) a = unwritten v b bytes x x.fault refl a.0 a.1 a.2
+
+-- the same of an array in use ---------------------------------------------------------------------------------------------------
+
+module _ {U : Type 0} (a : Array) (m n : List Drive) (r : Result U Refused) where
+  pub makes_step : (g code k : ℕ) (es : Bor (List ExtentRow)) (buffer : List ℕ) (z : Array) → MakesGroup m n (config a) (config z) g code k es.now r →
+      Step (entry (MakeGroup g code k es) buffer (answered r) buffer m n) a z m n
+  makes_step g code k es buffer z h past kept =
+      behind_by past (MakeGroup g code k es) buffer buffer (answered r) a z m n kept (λ (d : Configuration). MakesGroup m n d (config z) g code k es.now r) h
+      (group_made (state_of past) m n (sound_kept past a m kept) kept.lies kept.whole kept.held g code k es buffer (config z) r)
+
+  pub reads_step : (v b : ℕ) (was is : List ℕ) → (OnDrives m (config a) → ReadsBlock m n (config a) v b was is r) → Step (entry (Read v b) was (answered r) is m n) a a m n
+  reads_step v b was is h past k =
+      left_by past (Read v b) was is (answered r) a m n k (λ (d : Configuration). OnDrives m d → ReadsBlock m n d v b was is r) h
+      (λ told. block_read (state_of past) m n (sound_kept past a m k) k.lies k.whole k.held v b was is r (told k.lies))
+
+  pub writes_step : (v b : ℕ) (bytes : List ℕ) → ((j : ℕ) → get_or bytes j 0 < 256) → (OnDrives m (config a) → WritesBlock m n (config a) v b bytes r) →
+      Step (entry (Write v b) bytes (answered r) bytes m n) a a m n
+  writes_step v b bytes fit h past k =
+      left_by past (Write v b) bytes bytes (answered r) a m n k (λ (d : Configuration). OnDrives m d → WritesBlock m n d v b bytes r) h
+      (λ told. block_written (state_of past) m n (sound_kept past a m k) k.lies k.whole k.held v b bytes fit r (told k.lies))

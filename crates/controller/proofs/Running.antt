@@ -7,10 +7,9 @@ use Rattle.array.specs.declared.tables.Array.{Array}
 use Rattle.array.specs.Arrays.{config}
 use Rattle.array.specs.Configuration.{nothing}
 use Rattle.controller.specs.declared.calls.Call.{Call}
-use Rattle.controller.specs.declared.calls.Answer.{Answer}
 use Rattle.controller.specs.declared.log.Request.{Request}
 use Rattle.controller.specs.declared.log.Event.{Event}
-use Rattle.controller.specs.State.{Entry}
+use Rattle.controller.specs.State.{Answer, Entry}
 use Rattle.controller.specs.Law.{Reached, begun, waited, called, Step, Promise, Goes, entry}
 use Rattle.controller.specs.Runs.{entry_of, Question, asked, logged, Ran}
 use Rattle.controller.proofs.Traces.{reached_kept, law_of}

@@ -1,26 +1,40 @@
 -- From what an array's call answers to the law of one call. Assumes nothing.
-use Rattle.std.proofs.Common.{◌≡◌, ℕ, true, false, List, [], ◌∷◌, ◌++◌, length, None, Ok, Err, Result, sym, refl, ap, ◌∙◌, subst, ⊎_elim}
+use Rattle.std.proofs.Common.{◌≡◌, ℕ, true, false, List, [], ◌∷◌, ◌++◌, length, None, Ok, Err, Result, IsOkAnd, MatchResult, sym, refl, ap, ◌∙◌, subst, ⊎_elim}
 use Rattle.bus.specs.Drives.{Drive, at, size}
 use Rattle.array.specs.declared.tables.Array.{Array}
 use Rattle.array.specs.declared.refusal.Refusal.{Refusal}
-use Rattle.array.specs.declared.refusal.Refused.{Refused as TheRefused}
+use Rattle.array.specs.declared.refusal.Refused.{Refused}
 use Rattle.array.specs.Arrays.{config}
 use Rattle.array.specs.Refusals.{of_drives}
 use Rattle.array.specs.Configuration.{Configuration, is_some}
 use Rattle.array.specs.Tables.{SoundConfig}
 use Rattle.array.specs.Checks.{Check, FirstNo}
-use Rattle.array.specs.Calls.{OnDrives, Asked, Configures, Blamed}
+use Rattle.array.specs.Calls.{OnDrives, Blamed}
 use Rattle.array.proofs.Soundness.{sound_array}
 use Rattle.controller.specs.declared.calls.Call.{Call}
 use Rattle.controller.specs.declared.calls.Value.{Value}
 use Rattle.controller.specs.declared.calls.Value.TheVariants.{Done}
-use Rattle.controller.specs.declared.calls.Answer.{Answer}
-use Rattle.controller.specs.State.{Entry, State, state_of, after, after_answer}
-use Rattle.controller.specs.Steps.{answer_by, answered}
-use Rattle.controller.specs.Right.{Answers, Right, Blames}
-use Rattle.controller.specs.Law.{Held, WholeContents, Kept, Spared, Performed, entry}
+use Rattle.controller.specs.State.{Answer, Entry, State, state_of, after, after_answer}
+use Rattle.controller.specs.Right.{Right, Blames}
+use Rattle.controller.specs.Law.{Held, WholeContents, Kept, Spared, Performed, Step, entry}
 use Rattle.controller.proofs.Keeping.{state_snoc}
 use Rattle.controller.proofs.Apartness.{apart_by}
+
+-- accepted with what f makes of the value
+abbrev pub answer_by : {V : Type 0} → (V → Value) → Result V Refused → Answer
+answer_by f (Ok v) = Ok (f v)
+answer_by f (Err x) = Err x
+
+-- accepted with no value
+abbrev pub answered : {U : Type 0} → Result U Refused → Answer
+answered r = answer_by (λ u. Done) r
+
+-- which is what `map` answers
+answer_map : {V : Type 0} (f : V → Value) (Q : V → Value → Type 0) → ((v : V) (w : Value) → Q v w → w ≡ f v) → (r : Result V Refused) (x : Answer) →
+    MatchResult r (λ v. IsOkAnd x (Q v)) (λ e. x ≡ Err e) → x ≡ answer_by f r
+answer_map f Q q (Ok v) (Ok w) h = ap Ok (q v w h)
+answer_map f Q q (Ok v) (Err e) h = absurd h
+answer_map f Q q (Err e) x h = h
 
 -- what a call makes of a state; z is the configuration that the tables hold then
 pub record Stepped (st : State) (e : Entry) (m n : List Drive) (z : Configuration) : Type 0 where
@@ -72,7 +86,7 @@ pub plain_refusal : (cs : List Check) (x : Refusal) → Plain cs → FirstNo cs 
 plain_refusal [] x p f = absurd f
 plain_refusal (c ∷ cs) x p f = ⊎_elim (λ z. ap of_drives z.1 ∙ p.0) (λ z. plain_refusal cs x p.1 z.1) f
 
-pub plain_blamed : (cs : List Check) (x : TheRefused) → Plain cs → FirstNo cs x.refusal → x.fault ≡ None → Blamed x
+pub plain_blamed : (cs : List Check) (x : Refused) → Plain cs → FirstNo cs x.refusal → x.fault ≡ None → Blamed x
 plain_blamed cs x p f e = ap is_some e ∙ sym (plain_refusal cs x.refusal p f)
 
 -- a call that tries no drive and leaves its buffer
@@ -94,16 +108,6 @@ module _ (st : State) (call : Call) (buffer : List ℕ) (m : List Drive) where
     held = held;
   }
 
--- what its checks say of the answer
-module _ (cs : List Check) (call : Call) (buffer : List ℕ) (m : List Drive) where
-  pub asked_answers : {V : Type 0} (f : V → Value) (w : Value) (r : Result V TheRefused) → Asked cs (λ v. f v ≡ w) r → Answers cs w [] (entry call buffer (answer_by f r) buffer m m) (answer_by f r)
-  asked_answers f w (Ok v) a = (a.0, a.1, refl)
-  asked_answers f w (Err x) a = (a.0, refl)
-
-  pub configures_answers : {U : Type 0} (c z w : Configuration) (r : Result U TheRefused) → Configures cs c z w r → Answers cs Done [] (entry call buffer (answered r) buffer m m) (answered r)
-  configures_answers c z w (Ok u) a = (a.0, refl, refl)
-  configures_answers c z w (Err x) a = (a.0, refl)
-
 -- the same by what the array's contract says of its configuration, R
 pub behind_by : (past : List Entry) (call : Call) (was is : List ℕ) (x : Answer) (a z : Array) (m n : List Drive) (k : Kept past a m) (R : Configuration → Type 0) → R (config a) →
     (R (state_of past).configuration → Stepped (state_of past) (entry call was x is m n) m n (config z)) →
@@ -116,3 +120,10 @@ pub left_by : (past : List Entry) (call : Call) (was is : List ℕ) (x : Answer)
     Performed past (entry call was x is m n) m n × Kept (past ++ entry call was x is m n ∷ []) a n
 left_by past call was is x a m n k R h step =
     behind_by past call was is x a a m n k R h (λ y. subst (λ (c : Configuration). Stepped (state_of past) (entry call was x is m n) m n c) (sym k.tables) (step y))
+
+-- the arm of a call, whose answer is what `map` gave
+pub step_at : {V : Type 0} {call k : Call} {was is : List ℕ} {a z : Array} {m n : List Drive} → call ≡ k →
+    (f : V → Value) (Q : V → Value → Type 0) → ((v : V) (w : Value) → Q v w → w ≡ f v) → (r : Result V Refused) (x : Answer) → MatchResult r (λ v. IsOkAnd x (Q v)) (λ e. x ≡ Err e) →
+    Step (entry k was (answer_by f r) is m n) a z m n → Step (entry call was x is m n) a z m n
+step_at {k} {was} {is} {a} {z} {m} {n} e f Q q r x given s =
+    subst (λ (c : Call). Step (entry c was x is m n) a z m n) (sym e) (subst (λ (w : Answer). Step (entry k was w is m n) a z m n) (sym (answer_map f Q q r x given)) s)

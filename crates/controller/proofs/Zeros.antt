@@ -35,7 +35,7 @@ zero_all (u ∷ v ∷ vs) h z =
     ∙ ap (xor zeros) (zero_all (v ∷ vs) (omega arith) (λ p l. z (suc p) (omega arith)))
     ∙ bytes.zeros 512 zeros (omega (arith, zero_whole.long))
 
-pub zero_row : (k : MethodKind) (n t : ℕ) (us : List (List ℕ)) → (method k).least ≤ n → n ≤ 8 → length us ≡ (method k).width n →
+pub zero_row : (k : MethodKind) (n t : ℕ) (us : List (List ℕ)) → (method k).LEAST ≤ n → n ≤ 8 → length us ≡ (method k).width n →
     ((p : ℕ) → p < (method k).width n → get_or us p [] ≡ zeros) → (i : ℕ) → i < n → get_or ((method k).row n t us) i [] ≡ zeros
 zero_row NoRedundancy n t us few many long z i h = z i h
 zero_row Copy n t us few many long z i h = get_or-replicate n i (get_or us 0 []) [] h ∙ z 0 (lit≤ tt)
@@ -44,7 +44,7 @@ zero_row Xor n t us few many long z i h =
     (zero_all us (omega arith) (λ p l. z p (omega arith))) (λ p l. z p (omega arith)) i (omega arith)
 
 -- A row whose members all hold zeros holds user blocks of zeros.
-pub zero_holds : (n : List Drive) (g : GroupConfig) (r : ℕ) (us : List (List ℕ)) → (method g.kind).least ≤ count_of g → count_of g ≤ 8 →
+pub zero_holds : (n : List Drive) (g : GroupConfig) (r : ℕ) (us : List (List ℕ)) → (method g.kind).LEAST ≤ count_of g → count_of g ≤ 8 →
     length us ≡ width_of g → ((p : ℕ) → p < width_of g → get_or us p [] ≡ zeros) → ((i : ℕ) → i < count_of g → held n r (member g.members i) ≡ zeros) → Holds n g r us
 zero_holds n g r us few many long z h =
     let s = method_sound g.kind in
@@ -57,7 +57,7 @@ zero_holds n g r us few many long z h =
 pub new_member : (es : List ExtentRow) (i : ℕ) → i < length es → member (map whole_member es) i ≡ whole_member (extent es i)
 new_member es i l = get_or-map whole_member es i no_extent nobody l
 
-pub zero_new : (n : List Drive) (k : MethodKind) (depth rows r : ℕ) (es : List ExtentRow) (us : List (List ℕ)) → (method k).least ≤ length es → length es ≤ 8 →
+pub zero_new : (n : List Drive) (k : MethodKind) (depth rows r : ℕ) (es : List ExtentRow) (us : List (List ℕ)) → (method k).LEAST ≤ length es → length es ≤ 8 →
     length us ≡ (method k).width (length es) → ((p : ℕ) → p < (method k).width (length es) → get_or us p [] ≡ zeros) →
     ((i : ℕ) → i < length es → block n (extent es i).drive ((extent es i).start + r) ≡ zeros) →
     Holds n (record { kind = k; depth = depth; rows = rows; members = map whole_member es }) r us

@@ -1,5 +1,5 @@
 -- THE LAW of a log that began with a new array, and of one call on an array in use. Assumes nothing.
-use Rattle.std.specs.Prelude.{◌≡◌, ℕ, ◌<◌, Bool, true, false, List, [], ◌∷◌, ◌++◌, length, take}
+use Rattle.std.specs.Prelude.{◌≡◌, ℕ, ◌<◌, Bool, true, false, List, [], ◌∷◌, ◌++◌, length, take, Ok, Err}
 use Rattle.bus.specs.Drives.{Drive, Worse, at, size}
 use Rattle.layout.specs.Blocks.{Whole}
 use Rattle.group.specs.Filling.{zeros}
@@ -14,9 +14,7 @@ use Rattle.array.specs.Checks.{AllHold, block_checks}
 use Rattle.array.specs.Calls.{OnDrives, Holds}
 use Rattle.controller.specs.declared.calls.Call.{Call}
 use Rattle.controller.specs.declared.calls.Call.TheVariants.{MakeGroup, DeleteGroup, MakeVolume, DeleteVolume, WriteControl, Size, Map, Read, Write}
-use Rattle.controller.specs.declared.calls.Answer.{Answer}
-use Rattle.controller.specs.declared.calls.Answer.TheVariants.{Accepted, Refused}
-use Rattle.controller.specs.State.{Entry, State, state_of, users}
+use Rattle.controller.specs.State.{Answer, Entry, State, state_of, users}
 use Rattle.controller.specs.Right.{Right, Blames}
 
 -- NO DRIVE BLOCK LIES IN TWO EXTENTS, AND NO TWO VOLUME-SET BLOCKS SHARE A DRIVE BLOCK
@@ -53,8 +51,8 @@ pub record Kept (log : List Entry) (a : Array) (m : List Drive) : Type 0 where
 
 -- drives have to do with the answer
 abbrev pub Tries : Answer → Type 0
-Tries (Accepted w) = Unit {0}
-Tries (Refused x) = of_drives x.refusal ≡ true
+Tries (Ok w) = Unit {0}
+Tries (Err x) = of_drives x.refusal ≡ true
 
 -- What a call leaves alone: every drive where it is refused before any work, or as a write whose row was lost when it began.
 pub record Spared (st : State) (e : Entry) (m n : List Drive) : Type 0 where
@@ -93,8 +91,8 @@ Step e a z m n = (past : List Entry) → Kept past a m → Performed past e m n 
 -- what follows, with no contents kept -------------------------------------------------------------------------------------------
 
 abbrev pub accepted : Answer → Bool
-accepted (Accepted w) = true
-accepted (Refused x) = false
+accepted (Ok w) = true
+accepted (Err x) = false
 
 -- after `past`, e is an accepted read, or write, of the protected block p
 pub record ReadAt (past : List Entry) (e : Entry) (p : Spot) : Type 0 where
@@ -144,8 +142,8 @@ FirstZeros log =
     Made w p.group → Untouched (past ++ w ∷ []) mid p → ReadAt (past ++ w ∷ mid) r p → take 512 r.left ≡ zeros
 
 abbrev pub refused_as_lost : Answer → Type 0
-refused_as_lost (Accepted w) = ⊥
-refused_as_lost (Refused x) = x.refusal ≡ LostReading
+refused_as_lost (Ok w) = ⊥
+refused_as_lost (Err x) = x.refusal ≡ LostReading
 
 -- A READ that passes every check before the last IS REFUSED EXACTLY WHEN ITS BLOCK IS LOST, by the broken marks after it
 pub record LostExactly (log : List Entry) : Type 0 where

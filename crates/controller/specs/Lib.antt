@@ -1,5 +1,4 @@
 pub mod State
 pub mod Right
 pub mod Law
-pub mod Steps
 pub mod Runs

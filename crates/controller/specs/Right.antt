@@ -1,5 +1,5 @@
 -- The rules of one call: which answers are right. Assumes nothing.
-use Rattle.std.specs.Prelude.{◌≡◌, ℕ, ◌+◌, ◌<◌, true, List, [], ◌++◌, length, drop, Some, None, Option}
+use Rattle.std.specs.Prelude.{◌≡◌, ℕ, ◌+◌, ◌<◌, true, List, [], ◌++◌, length, drop, Some, None, Option, Ok, Err}
 use Rattle.layout.specs.declared.extent.ExtentRow.{ExtentRow}
 use Rattle.group.specs.Group.{member}
 use Rattle.group.specs.Filling.{extent}
@@ -13,9 +13,7 @@ use Rattle.controller.specs.declared.calls.Call.{Call}
 use Rattle.controller.specs.declared.calls.Call.TheVariants.{MakeGroup, DeleteGroup, MakeVolume, DeleteVolume, WriteControl, Size, Map, Read, Write}
 use Rattle.controller.specs.declared.calls.Value.{Value}
 use Rattle.controller.specs.declared.calls.Value.TheVariants.{Done, Blocks, At}
-use Rattle.controller.specs.declared.calls.Answer.{Answer}
-use Rattle.controller.specs.declared.calls.Answer.TheVariants.{Accepted, Refused}
-use Rattle.controller.specs.State.{Entry, State}
+use Rattle.controller.specs.State.{Answer, Entry, State}
 
 -- the buffer with `out` written over its front
 abbrev pub over : List ℕ → List ℕ → List ℕ
@@ -24,8 +22,8 @@ over out buffer = out ++ drop (length out) buffer
 -- Accepted exactly when all checks hold, with this value, and these bytes written over the front of the buffer; refused
 -- exactly with the first check that does not hold, and then the buffer is as it was.
 abbrev pub Answers : List Check → Value → List ℕ → Entry → Answer → Type 0
-Answers cs v out e (Accepted w) = AllHold cs × (w ≡ v) × (e.left ≡ over out e.buffer)
-Answers cs v out e (Refused x) = FirstNo cs x.refusal × (e.left ≡ e.buffer)
+Answers cs v out e (Ok w) = AllHold cs × (w ≡ v) × (e.left ≡ over out e.buffer)
+Answers cs v out e (Err x) = FirstNo cs x.refusal × (e.left ≡ e.buffer)
 
 -- where the entry's call is made
 abbrev pub scene_at : ℕ → (ℕ → ℕ) → State → Entry → Scene
@@ -39,7 +37,7 @@ RightFor s st e (DeleteVolume v) = Answers (delete_volume_checks st.configuratio
 RightFor s st e (WriteControl v on) = Answers (control_checks st.configuration v) Done [] e e.answer
 RightFor s st e (Size v) = Answers (size_checks st.configuration v) (Blocks (blocks_of st.configuration v)) [] e e.answer
 RightFor s st e (Map v b) =
-    Answers (map_checks st.configuration v b) (At (mapped st.configuration v b).drive (mapped st.configuration v b).at) [] e e.answer
+    Answers (map_checks st.configuration v b) (At (record { drive = (mapped st.configuration v b).drive; block = (mapped st.configuration v b).at })) [] e e.answer
 RightFor s st e (Read v b) =
     Answers (read_checks s v b (length e.buffer)) Done (st.contents (spot_of st.configuration v b).group (spot_of st.configuration v b).block) e e.answer
 RightFor s st e (Write v b) = Answers (write_checks s v b (length e.buffer)) Done [] e e.answer
@@ -72,13 +70,13 @@ pub record MissingMember (s : Scene) (v a w x h r i d b : ℕ) : Type 0 where
 
 abbrev pub NamesExtent : Scene → ℕ → List ExtentRow → Option Fault → Type 0
 NamesExtent s g es None = Unit {0}
-NamesExtent s g es (Some (OfRow h r i d b)) = BrokenExtent s g es h r i d b
-NamesExtent s g es (Some (OfBlock w x h r i d b)) = ⊥
+NamesExtent s g es (Some (OfRow h r i p)) = BrokenExtent s g es h r i p.drive p.block
+NamesExtent s g es (Some (OfBlock o h r i p)) = ⊥
 
 abbrev pub NamesMember : Scene → ℕ → ℕ → Option Fault → Type 0
 NamesMember s v a None = Unit {0}
-NamesMember s v a (Some (OfRow h r i d b)) = ⊥
-NamesMember s v a (Some (OfBlock w x h r i d b)) = MissingMember s v a w x h r i d b
+NamesMember s v a (Some (OfRow h r i p)) = ⊥
+NamesMember s v a (Some (OfBlock o h r i p)) = MissingMember s v a o.volume o.block h r i p.drive p.block
 
 abbrev pub Names : Scene → Call → Option Fault → Type 0
 Names s (MakeGroup g code k es) f = NamesExtent s g es.now f
@@ -93,8 +91,8 @@ Names s (Write v b) f = NamesMember s v b f
 
 -- A REFUSAL NAMES A DRIVE exactly where drives have to do with it, and one that it may name; which of several is free
 abbrev pub BlamesFor : Scene → Call → Answer → Type 0
-BlamesFor s call (Accepted w) = Unit {0}
-BlamesFor s call (Refused x) = Blamed x × Names s call x.fault
+BlamesFor s call (Ok w) = Unit {0}
+BlamesFor s call (Err x) = Blamed x × Names s call x.fault
 
 abbrev pub Blames : ℕ → (ℕ → ℕ) → State → Entry → Type 0
 Blames count capacity st e = BlamesFor (scene_at count capacity st e) e.call e.answer

@@ -1,14 +1,18 @@
 -- What the calls and answers alone say: the configuration and the expected contents after them. Assumes nothing.
-use Rattle.std.specs.Prelude.{ℕ, Bool, cond, ◌&&◌, List, [], ◌∷◌, map, take, None, ◌==◌}
+use Rattle.std.specs.Prelude.{ℕ, Bool, cond, ◌&&◌, List, [], ◌∷◌, map, take, None, Ok, Err, Result, ◌==◌}
 use Rattle.std.specs.List.{range_with_len}
 use Rattle.group.specs.Filling.{zeros}
+use Rattle.array.specs.declared.refusal.Refused.{Refused}
 use Rattle.array.specs.Kinds.{method_of}
 use Rattle.array.specs.Configuration.{Configuration, nothing, group_at, new_group, with_group, with_volume, new_volume, controlled}
 use Rattle.array.specs.Places.{Spot, spot_of, width_of, user_block}
 use Rattle.controller.specs.declared.calls.Call.{Call}
 use Rattle.controller.specs.declared.calls.Call.TheVariants.{MakeGroup, DeleteGroup, MakeVolume, DeleteVolume, WriteControl, Size, Map, Read, Write}
-use Rattle.controller.specs.declared.calls.Answer.{Answer}
-use Rattle.controller.specs.declared.calls.Answer.TheVariants.{Accepted, Refused}
+use Rattle.controller.specs.declared.calls.Value.{Value}
+
+-- what a call answers: accepted with a value, or refused
+abbrev pub Answer : Type 0
+Answer = Result Value Refused
 
 -- An entry of a log: a call, what its buffer held, its answer, what the buffer holds then, and of every drive whether it
 -- was broken before the call and is broken after it.
@@ -63,8 +67,8 @@ entered st (Read v b) buffer = st.contents
 entered st (Write v b) buffer = put st.contents (spot_of st.configuration v b) (take 512 buffer)
 
 abbrev pub after_answer : State → Call → List ℕ → Answer → State
-after_answer st call buffer (Accepted w) = record { configuration = configured st.configuration call; contents = entered st call buffer }
-after_answer st call buffer (Refused x) = st
+after_answer st call buffer (Ok w) = record { configuration = configured st.configuration call; contents = entered st call buffer }
+after_answer st call buffer (Err x) = st
 
 abbrev pub after : State → Entry → State
 after st e = after_answer st e.call e.buffer e.answer

@@ -1,12 +1,14 @@
 //! What is asked of an array, and what it answers. Numbers are as the caller gave them: the checks judge them.
 use array::refusal::Refused;
 use array::volume::Run;
+use bus::BlockAddress;
 use layout::extent::ExtentRow;
 
 /// One call. The buffer of a call that has one stands beside it.
-#[derive(Clone, Copy)]
+#[derive(Clone, Copy, PartialEq, Eq, Debug)]
 pub enum Call<'a> {
     /// Makes a group by the method with this code, on these extents.
+    // The code is any number, as its caller gave it: what is no method's is for the checks to refuse.
     MakeGroup {
         group: usize,
         code: usize,
@@ -51,16 +53,12 @@ pub enum Call<'a> {
 }
 
 /// What an accepted call answers.
-#[derive(Clone, Copy)]
+#[derive(Clone, Copy, PartialEq, Eq, Debug)]
 pub enum Value {
     Done,
     Blocks(usize),
-    At { drive: usize, block: usize },
+    At(BlockAddress),
 }
 
-/// What a call answers.
-#[derive(Clone, Copy)]
-pub enum Answer {
-    Accepted(Value),
-    Refused(Refused),
-}
+/// What a call answers: accepted with a value, or refused.
+pub type Answer = Result<Value, Refused>;

@@ -6,8 +6,9 @@ ghost use Rattle.controller.specs.Runs.{Turned, Ran};
 use crate::log::{Event, Request};
 use crate::perform::perform;
 use array::tables::Array;
-use bus::Bus;
+use bus::{Bus, MOST_DRIVES};
 use std::alloc::{AllocError, Global};
+use std::array::from_fn;
 
 /// What happens to a bus between two calls: some drives may break, and nothing else changes.
 pub trait Between<B: Bus> {
@@ -16,14 +17,10 @@ pub trait Between<B: Bus> {
 }
 
 // Of every drive whether it is broken.
-fn marks<B: Bus>(bus: &B) -> [bool; 16]
+fn marks<B: Bus>(bus: &B) -> [bool; MOST_DRIVES]
     ensures { (d : ℕ) → slice_index_or result d true ≡ (at (B.Bus.drives bus.now) d).broken }
 {
-    let mut marks = [true; 16];
-    for d in 0..16usize {
-        marks[d] = bus.broken(d);
-    }
-    marks
+    from_fn(|d| bus.broken(d))
 }
 
 // One request, put into the log. Where memory is wanting nothing has happened.
