@@ -3,15 +3,13 @@ use Rattle.std.proofs.Common.{◌≡◌, ℕ, ◌+◌, ◌<◌, Bool, true, fals
 use Rattle.std.specs.List.{prefix_len}
 use Rattle.std.proofs.lemmas.List.{nil_from_length}
 use Rattle.std.proofs.lemmas.Bool.{eqb-true, eq-eqb}
-use Rattle.script.specs.declared.kind.Kind.TheVariants.{Only}
-use Rattle.script.specs.Kinds.{is}
 use Rattle.script.specs.Showing.{before, runs, shown_run, spaced, shown_runs}
 
 drop_cons : (n x : ℕ) (xs : List ℕ) → drop (1 + n) (x ∷ xs) ≡ drop n xs
 drop_cons n x xs = rw one-add refl
 
 abbrev pub same : ℕ → List ℕ → ℕ
-same b bs = prefix_len (is (Only b)) bs
+same b bs = prefix_len ((λ c. eqb c b)) bs
 
 pub runs_cons : (b : ℕ) (bs : List ℕ) → runs (b ∷ bs) ≡ (1 + same b bs, b) ∷ runs (drop (same b bs) bs)
 runs_cons b [] = refl
