@@ -1,5 +1,5 @@
-ghost use Rattle.std.specs.Prelude.{◌≡◌, ◌<◌, ◌≤◌, [], ◌∷◌, length, IfSome, MatchOption};
-ghost use Rattle.std.specs.Iterator.{YieldsFirstBy, item_count, MakesProgress};
+ghost use Rattle.std.specs.Prelude.{◌≡◌, ◌<◌, ◌≤◌, length, MatchOption};
+ghost use Rattle.std.specs.Iterator.{YieldsFirstBy, item_count};
 ghost use Rattle.script.specs.Kinds.{blank, solid};
 ghost use Rattle.script.specs.Lines.{words};
 
@@ -36,17 +36,13 @@ impl<'a> Words<'a> {
 impl<'a> Iterator for Words<'a> {
     type Item = &'a [u8];
 
-    ghost next_gives = { YieldsFirstBy (λ w. w.now) (λ s. words s.rest.now) };
+    // It gives the first of the words that are left, which has a byte at least, and leaves the others.
+    ghost next_gives = { λ s r t. YieldsFirstBy (λ w. w.now) (λ u. words u.rest.now) s r t × MatchOption r (length t.rest.now ≤ length s.rest.now) (λ w. (0 < length w.now) × (length t.rest.now < length s.rest.now)) };
 
     ghost remaining = { item_count (λ s. words s.rest.now) };
 
     /// The next word, and none past the last.
-    fn next(&mut self) -> Option<&'a [u8]>
-        ensures steps { MatchOption result ((words self.old.rest.now ≡ []) × (words self.new.rest.now ≡ [])) (λ w. words self.old.rest.now ≡ w.now ∷ words self.new.rest.now) }
-        ensures goes { MakesProgress (λ _. Unit {0}) (item_count (λ s. words s.rest.now)) self.old result self.new }
-        ensures falls { MatchOption result (length self.new.rest.now ≤ length self.old.rest.now) (λ w. length self.new.rest.now < length self.old.rest.now) }
-        ensures some { IfSome result (λ w. 0 < length w.now) }
-    {
+    fn next(&mut self) -> Option<&'a [u8]> {
         let line = self.rest;
         let (_, unread) = line.split_at(leading(line, is_blank));
         let (word, rest) = unread.split_at(leading(unread, is_solid));
