@@ -1,7 +1,7 @@
 -- Which word of the language a word is.
-use Rattle.std.proofs.Common.{◌≡◌, ℕ, Bool, true, false, List, length, get_or, Ok, Err, codes, Result, sym, refl, ap, subst, inl, inr}
+use Rattle.std.proofs.Common.{◌≡◌, ℕ, Bool, true, false, ◌⊎◌, List, length, Ok, Err, codes, Result, sym, refl, subst, inl, inr}
 use Rattle.std.specs.Str.{bytes_eq}
-use Rattle.std.proofs.lemmas.Slice.Eq.{bytes_eq-Decides}
+use Rattle.std.proofs.lemmas.Slice.Eq.{bytes_eq-Decides, HasBytesAt}
 use Rattle.jowlspur.specs.declared.request.Request.{Request}
 use Rattle.jowlspur.specs.declared.wrong.Wrong.{Wrong}
 use Rattle.jowlspur.specs.declared.wrong.Wrong.TheVariants.{Unknown}
@@ -25,20 +25,24 @@ not_word w p h = elim_false (bytes_eq w p) (λ e. h ((bytes_eq-Decides w p).0 e)
     elim_false true k = absurd (k refl)
     elim_false false k = refl
 
+-- w has the length of p, and its bytes
+abbrev Same : List ℕ → List ℕ → Type 0
+Same w p = (length w ≡ length p) × HasBytesAt w 0 p
+
+-- one of the language's words
+abbrev pub Known : List ℕ → Type 0
+Known w =
+    Same w (codes "bus") ⊎ (Same w (codes "break") ⊎ (Same w (codes "broken") ⊎ (Same w (codes "peek") ⊎ (Same w (codes "poke") ⊎ Same w (codes "raw")))))
+
 -- a word that is none of the language's
-module _ (w : List ℕ) (ws : List (List ℕ)) where
-  pub unknown :
-      (length w ≡ 3 → get_or w 0 0 ≡ 98 → get_or w 1 0 ≡ 117 → get_or w 2 0 ≡ 115 → ⊥) →
-      (length w ≡ 5 → get_or w 0 0 ≡ 98 → get_or w 1 0 ≡ 114 → get_or w 2 0 ≡ 101 → get_or w 3 0 ≡ 97 → get_or w 4 0 ≡ 107 → ⊥) →
-      (length w ≡ 6 → get_or w 0 0 ≡ 98 → get_or w 1 0 ≡ 114 → get_or w 2 0 ≡ 111 → get_or w 3 0 ≡ 107 → get_or w 4 0 ≡ 101 → get_or w 5 0 ≡ 110 → ⊥) →
-      (length w ≡ 4 → get_or w 0 0 ≡ 112 → get_or w 1 0 ≡ 101 → get_or w 2 0 ≡ 101 → get_or w 3 0 ≡ 107 → ⊥) →
-      (length w ≡ 4 → get_or w 0 0 ≡ 112 → get_or w 1 0 ≡ 111 → get_or w 2 0 ≡ 107 → get_or w 3 0 ≡ 101 → ⊥) →
-      (length w ≡ 3 → get_or w 0 0 ≡ 114 → get_or w 1 0 ≡ 97 → get_or w 2 0 ≡ 119 → ⊥) → asked_by w ws ≡ Err Unknown
-  unknown bus break broken peek poke raw =
-      rw (
-        not_word w (codes "bus") (λ e. bus (ap length e) (ap (λ l. get_or l 0 0) e) (ap (λ l. get_or l 1 0) e) (ap (λ l. get_or l 2 0) e)),
-        not_word w (codes "break") (λ e. break (ap length e) (ap (λ l. get_or l 0 0) e) (ap (λ l. get_or l 1 0) e) (ap (λ l. get_or l 2 0) e) (ap (λ l. get_or l 3 0) e) (ap (λ l. get_or l 4 0) e)),
-        not_word w (codes "broken") (λ e. broken (ap length e) (ap (λ l. get_or l 0 0) e) (ap (λ l. get_or l 1 0) e) (ap (λ l. get_or l 2 0) e) (ap (λ l. get_or l 3 0) e) (ap (λ l. get_or l 4 0) e) (ap (λ l. get_or l 5 0) e)),
-        not_word w (codes "peek") (λ e. peek (ap length e) (ap (λ l. get_or l 0 0) e) (ap (λ l. get_or l 1 0) e) (ap (λ l. get_or l 2 0) e) (ap (λ l. get_or l 3 0) e)),
-        not_word w (codes "poke") (λ e. poke (ap length e) (ap (λ l. get_or l 0 0) e) (ap (λ l. get_or l 1 0) e) (ap (λ l. get_or l 2 0) e) (ap (λ l. get_or l 3 0) e)),
-        not_word w (codes "raw") (λ e. raw (ap length e) (ap (λ l. get_or l 0 0) e) (ap (λ l. get_or l 1 0) e) (ap (λ l. get_or l 2 0) e))) refl
+pub unknown : (w : List ℕ) (ws : List (List ℕ)) → (Known w → ⊥) → asked_by w ws ≡ Err Unknown
+unknown w ws h =
+    let is : (v : List ℕ) → w ≡ v → Same v v → Same w v = λ v e k. subst (λ l. Same l v) (sym e) k in
+    rw (
+      not_word w (codes "bus") (λ e. h (inl (is (codes "bus") e (refl, (refl, (refl, (refl, tt))))))),
+      not_word w (codes "break") (λ e. h (inr (inl (is (codes "break") e (refl, (refl, (refl, (refl, (refl, (refl, tt)))))))))),
+      not_word w (codes "broken") (λ e. h (inr (inr (inl (is (codes "broken") e (refl, (refl, (refl, (refl, (refl, (refl, (refl, tt)))))))))))),
+      not_word w (codes "peek") (λ e. h (inr (inr (inr (inl (is (codes "peek") e (refl, (refl, (refl, (refl, (refl, tt))))))))))),
+      not_word w (codes "poke") (λ e. h (inr (inr (inr (inr (inl (is (codes "poke") e (refl, (refl, (refl, (refl, (refl, tt)))))))))))),
+      not_word w (codes "raw") (λ e. h (inr (inr (inr (inr (inr (is (codes "raw") e (refl, (refl, (refl, (refl, tt))))))))))),
+    ) refl

@@ -29,29 +29,15 @@ fn push_shown_run(n: u64, b: u8, out: &mut Vec<u8>) -> Result<(), AllocError>
     out.extend_from_slice(&[b'*', hex_digit(b / 16), hex_digit(b % 16)])
 }
 
-// Writes the first run, with a space behind it where more follow, and returns what the run leaves.
-fn push_first_run<'a>(bytes: &'a [u8], out: &mut Vec<u8>) -> Result<&'a [u8], AllocError>
-    requires { 0 < length bytes.now }
-    ensures falls { IfOk result (λ rest. length rest.now < length bytes.now) }
-    ensures extends { Extends out.old.items out.new.items }
-    ensures same { IfOk result (λ rest. out.new.items ++ shown_runs rest.now ≡ out.old.items ++ shown_runs bytes.now) }
-{
-    let first = bytes[0];
-    let n = leading(bytes, |b| b == first);
-    push_shown_run(n as u64, first, out)?;
-    let (_, rest) = bytes.split_at(n);
-    if !rest.is_empty() {
-        out.push(b' ')?;
-    }
-    Ok(rest)
-}
-
+// Writes the longest runs, with a space between each two.
 fn push_runs(bytes: &[u8], out: &mut Vec<u8>) -> Result<(), AllocError>
     ensures { Grown result (shown_runs bytes.now) out.old.items out.new.items }
 {
-    let mut rest = bytes;
-    while !rest.is_empty() {
-        rest = push_first_run(rest, out)?;
+    let mut between: &[u8] = b"";
+    for run in bytes.chunk_by(|a, b| a == b) {
+        out.extend_from_slice(between)?;
+        push_shown_run(run.len() as u64, run[0], out)?;
+        between = b" ";
     }
     Ok(())
 }

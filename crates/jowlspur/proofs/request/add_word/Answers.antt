@@ -1,7 +1,5 @@
-use Rattle.std.proofs.Common.{◌≡◌, ◌⊎◌, Err, vec_items, sym, subst, ◌∙◌}
+use Rattle.std.proofs.Common.{vec_items}
 use Rattle.std.proofs.lemmas.Result.{err_from_is_err_and}
-use Rattle.jowlspur.specs.declared.wrong.Wrong.TheVariants.{NoMemory}
-use Rattle.jowlspur.specs.Language.{extended}
 use Rattle.jowlspur.proofs.Parsing.{extended_ok, word_refused}
 use Rattle.jowlspur.proofs.request.add_word.Goals as goal
 

@@ -16,7 +16,7 @@ returns-then-at-n c =
     let all : c.count.result ≡ length (joined s t) = c.count.ensures ∙ ap (λ (j : JoinedBus MemoryBus MemoryBus). length (joined (memory_drives j.first) (memory_drives j.second))) below in
     let n : c.count-n.result ≡ length s = c.count-n.ensures ∙ ap (λ m. length (memory_drives m)) (c.first.ensures ∙ ap (λ (j : JoinedBus MemoryBus MemoryBus). j.first) below) in
     let reads : Reads s s c.args.at.drive c.args.at.block c.args.buf.now c.peek.new.buf c.peek.result =
-        subst (λ m. Reads (memory_drives m) (memory_drives m) c.args.at.drive c.args.at.block c.args.buf.now c.peek.new.buf c.peek.result) (c.first-then-at-n.ensures ∙ ap (λ (j : JoinedBus MemoryBus MemoryBus). j.first) below) c.peek.ensures.reads in
+    subst (λ m. Reads (memory_drives m) (memory_drives m) c.args.at.drive c.args.at.block c.args.buf.now c.peek.new.buf c.peek.result) (c.first-then-at-n.ensures ∙ ap (λ (j : JoinedBus MemoryBus MemoryBus). j.first) below) c.peek.ensures.reads in
     first_peek s t _ _ _ _ c.peek.result c.peek.result (omega arith) (reads_named s s _ _ _ _ c.peek.result reads) (omega arith) reads
 
 pub returns-else-at-n : goal.returns-else-at-n
