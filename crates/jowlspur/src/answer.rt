@@ -13,6 +13,7 @@ use bus::{BLOCK, BlockAddress, Bus, BusFault};
 use script::{show_bytes, show_number};
 use std::alloc::AllocError;
 
+// One part of an answer; `write!` to a `Vec` does not say what stands there when it fails.
 fn put(out: &mut Vec<u8>, text: &[u8]) -> Result<(), AllocError>
     ensures { Written result text.now out.old.items out.new.items }
 {

@@ -1,10 +1,10 @@
 -- Byte strings, digit by digit. Assumes nothing.
 use Rattle.std.specs.Simd.{first_chunks}
 use Rattle.std.specs.List.{list_all}
-use Rattle.std.proofs.Common.{suc, zero, is_some, map, ◌&&◌, eqb, subst, ◌≡◌, ℕ, ◌+◌, ◌/◌, ◌%◌, ◌<◌, ◌≤◌, Bool, true, false, cond, List, [], ◌∷◌, length, get_or, replicate, Some, None, Err, Option, sym, refl, ap, ◌∙◌, arith}
+use Rattle.std.proofs.Common.{suc, zero, is_some, map, ◌&&◌, eqb, subst, ◌≡◌, ℕ, ◌+◌, ◌/◌, ◌%◌, ◌<◌, Bool, true, false, cond, List, [], ◌∷◌, length, get_or, replicate, Some, None, Err, Option, sym, refl, ap, ◌∙◌, arith}
 use Rattle.std.specs.Char.{is_ascii_hexdigit}
 use Rattle.script.specs.declared.bytes.BytesFault.{BytesFault}
-use Rattle.script.specs.declared.bytes.BytesFault.TheVariants.{TooLong, NoMemory}
+use Rattle.script.specs.declared.bytes.BytesFault.TheVariants.{TooLong}
 use Rattle.script.specs.Numerals.{and_then, numeral}
 use Rattle.script.specs.Spelling.{pair, one_byte, paired, plain, run, Added}
 
@@ -71,6 +71,3 @@ run_is count value n b e k = ap (λ o. and_then o (λ m. and_then (one_byte valu
 module _ (o : Option (List ℕ)) (bs : List ℕ) (limit : ℕ) (was is : List ℕ) (more len : ℕ) (fault : BytesFault) (means : o ≡ Some bs) (long : length bs ≡ more) (had : len ≡ length was) (same : is ≡ was) where
   pub too_long : (fault ≡ TooLong) × (limit < len + more) → Added o limit was is (Err fault)
   too_long h = subst (λ f. Added o limit was is (Err f)) (sym h.0) (bs, means, omega arith, same)
-
-  pub no_memory : fault ≡ NoMemory → len + more ≤ limit → Added o limit was is (Err fault)
-  no_memory e h = subst (λ f. Added o limit was is (Err f)) (sym e) (bs, means, omega arith, same)

@@ -1,7 +1,5 @@
 -- Text behind text. Assumes nothing.
-use Rattle.std.proofs.Common.{eqb, ◌≡◌, ℕ, ◌+◌, ◌/◌, ◌%◌, ◌^◌, ◌<◌, ◌≤◌, List, [], ◌∷◌, ◌++◌, length, get_or, take, decimal, sym, ap, ◌∙◌, append_assoc, arith}
-use Rattle.std.proofs.lemmas.Fmt.{decimal_digit, decimal_step}
-use Rattle.std.proofs.lemmas.List.{take_at}
+use Rattle.std.proofs.Common.{eqb, ◌≡◌, ℕ, ◌<◌, List, [], ◌∷◌, ◌++◌, length, get_or, sym, ap, ◌∙◌, append_assoc}
 use Rattle.script.specs.Showing.{shown_run, Extends}
 use Rattle.std.specs.List.{IsChunkByPrefix}
 use Rattle.script.proofs.Runs.{rest_shown, run_shown}
@@ -10,20 +8,8 @@ use Rattle.script.proofs.Runs.{rest_shown, run_shown}
 pub behind : (was mid is x y : List ℕ) → mid ≡ was ++ x → is ≡ mid ++ y → is ≡ was ++ (x ++ y)
 behind was mid is x y e k = k ∙ ap (λ l. l ++ y) e ∙ append_assoc was x y
 
-pub last_digit : (n : ℕ) (was mid is : List ℕ) → 10 ≤ n → n < 2 ^ 64 → mid ≡ was ++ decimal (n / 10) → is ≡ mid ++ (48 + n % 10) ∷ [] → is ≡ was ++ decimal n
-last_digit n was mid is big fits e k = behind was mid is _ _ e k ∙ ap (λ l. was ++ l) (sym (decimal_step n big fits))
-
-pub only_digit : (n : ℕ) (was is : List ℕ) → n < 10 → is ≡ was ++ (48 + n % 10) ∷ [] → is ≡ was ++ decimal n
-only_digit n was is small k =
-    let one : n % 10 ≡ n = omega arith in
-    k ∙ ap (λ x. was ++ (48 + x) ∷ []) one ∙ ap (λ l. was ++ l) (sym (decimal_digit n small))
-
 pub extends_on : (was mid is : List ℕ) → Extends was mid → Extends mid is → Extends was is
 extends_on was mid is e k = (e.0 ++ k.0, behind was mid is e.0 k.0 e.1 k.1)
-
--- cut back to where it began
-pub taken_back : (was is after : List ℕ) (n : ℕ) → Extends was is → n ≡ length was → after ≡ take n is → after ≡ was
-taken_back was is after n e k t = t ∙ ap (take n) e.1 ∙ take_at was e.0 n (sym k)
 
 -- one run more: out is what was written, and sep and the run x are written behind it
 pub run_written : (bs x rest sep was out mid is : List ℕ) → bs ≡ x ++ rest → 0 < length x → IsChunkByPrefix eqb bs (length x) → out ++ rest_shown sep bs ≡ was → mid ≡ out ++ sep → is ≡ mid ++ shown_run (length x, get_or x 0 0) → is ++ rest_shown (32 ∷ []) rest ≡ was

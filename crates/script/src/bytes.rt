@@ -71,6 +71,7 @@ fn add_run(count: &[u8], value: &[u8], limit: usize, out: &mut Vec<u8>) -> Resul
     Ok(())
 }
 
+// Adds the bytes of the digits two by two. There is room for them, so unlike `extend` it cannot fail.
 fn push_pairs(digits: &[u8], out: &mut Vec<u8>)
     requires { vec_len out.old + length digits.now / 2 ≤ vec_capacity out.old }
     ensures { out.new.items ≡ out.old.items ++ paired digits.now }

@@ -11,13 +11,13 @@ fn append(n: u64, digit: u8) -> Option<u64>
 }
 
 /// The number that a word of decimal digits stands for, if 64 bits hold it.
-// `parse` would take a plus sign in front of the digits too.
 pub fn number(word: &[u8]) -> Option<u64>
     ensures { result ≡ numeral word.now }
 {
     if word.is_empty() {
         return None;
     }
+    // Not `parse`, which takes a plus sign in front of the digits too.
     let mut n = 0;
     for digit in word {
         n = append(n, *digit)?;

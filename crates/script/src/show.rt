@@ -21,7 +21,7 @@ pub fn show_number(n: u64, out: &mut Vec<u8>) -> Result<(), AllocError>
     out.extend_from_slice(digits.format(n).as_bytes())
 }
 
-// Writes a run of equal bytes, as `509*a5`.
+// Writes a run of equal bytes, as `509*a5`; `write!` to a `Vec` does not say what stands there when it fails.
 fn push_shown_run(n: u64, b: u8, out: &mut Vec<u8>) -> Result<(), AllocError>
     ensures { Grown result (shown_run (n, b)) out.old.items out.new.items }
 {
