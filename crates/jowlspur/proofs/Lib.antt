@@ -1,4 +1,3 @@
 pub mod Peeking
-pub mod Texts
 pub mod Parsing
 pub mod Wording

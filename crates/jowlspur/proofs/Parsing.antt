@@ -1,6 +1,7 @@
 -- What the parts of a line come to, by the words that are left.
 use Rattle.std.proofs.Common.{◌≡◌, ℕ, ◌+◌, ◌<◌, ◌≤◌, cond, leb, ◌⊎◌, List, [], ◌∷◌, ◌++◌, length, Some, None, Ok, Err, Result, sym, refl, ap, ◌∙◌, subst, inl, inr, MatchResult}
 use Rattle.std.proofs.lemmas.Bool.{le-leb, lt-leb, cond-true, cond-false}
+use Rattle.buses.specs.declared.memory.Drives.{Drives}
 use Rattle.script.specs.declared.bytes.BytesFault.{BytesFault}
 use Rattle.script.specs.declared.bytes.BytesFault.TheVariants.{Malformed, TooLong as Long, NoMemory as Wanting}
 use Rattle.script.specs.Numerals.{numeral}
@@ -8,7 +9,8 @@ use Rattle.script.specs.Spelling.{spelled, Added}
 use Rattle.jowlspur.specs.declared.wrong.Wrong.{Wrong}
 use Rattle.jowlspur.specs.declared.wrong.Wrong.TheVariants.{Missing, Surplus, Number, Bytes, TooLong, NoMemory}
 use Rattle.jowlspur.specs.Shelves.{untouched}
-use Rattle.jowlspur.specs.Language.{onward, or_else, ended, numbered, number_then, last_number, second_pair, buffer_of, wrong_of, extended, extended_all, bytes_of}
+use Rattle.jowlspur.specs.Wrongs.{wrong_of}
+use Rattle.jowlspur.specs.Language.{onward, or_else, ended, numbered, number_then, last_number, second_drives, drives_of, buffer_of, extended, extended_all, bytes_of}
 
 -- no word is left
 module _ (ws : List (List ℕ)) (none : ws ≡ []) where
@@ -24,9 +26,9 @@ module _ (ws : List (List ℕ)) (none : ws ≡ []) where
   unfolding last_number
   last_none = sym (ap last_number none)
 
-  pub pair_none : Ok (0, 1) ≡ second_pair ws
-  unfolding second_pair
-  pair_none = sym (ap second_pair none)
+  pub pair_none : Ok (drives_of 0 1) ≡ second_drives ws
+  unfolding second_drives
+  pair_none = sym (ap second_drives none)
 
   pub bytes_none : bytes_of ws ≡ Err Missing
   unfolding bytes_of
@@ -58,24 +60,24 @@ module _ (ws : List (List ℕ)) (w : List ℕ) (vs : List (List ℕ)) (some : ws
   pub last_some : (n : ℕ) → Some n ≡ numeral w → (z : Result (Unit {0}) Wrong) → z ≡ ended vs → onward z (λ _. Ok (Some n)) ≡ last_number ws
   last_some n e z k = sym (last_is ∙ ap (λ v. onward v (λ p. onward (ended p.1) (λ _. Ok (Some p.0)))) (numbered_some n e) ∙ ap (λ v. onward v (λ _. Ok (Some n))) (sym k))
 
-  abbrev pair_then : ℕ → List (List ℕ) → Result (ℕ × ℕ) Wrong
-  pair_then n us = number_then us (λ c rest. onward (ended rest) (λ _. Ok (n, c)))
+  abbrev pair_then : ℕ → List (List ℕ) → Result Drives Wrong
+  pair_then n us = number_then us (λ c rest. onward (ended rest) (λ _. Ok (drives_of n c)))
 
-  pair_is : second_pair ws ≡ number_then ws pair_then
-  unfolding second_pair
-  pair_is = ap second_pair some ∙ ap (λ v. number_then v pair_then) (sym some)
+  pair_is : second_drives ws ≡ number_then ws pair_then
+  unfolding second_drives
+  pair_is = ap second_drives some ∙ ap (λ v. number_then v pair_then) (sym some)
 
-  pub pair_not : None ≡ numeral w → Err Number ≡ second_pair ws
+  pub pair_not : None ≡ numeral w → Err Number ≡ second_drives ws
   pair_not e = sym (pair_is ∙ ap (λ v. onward v (λ p. pair_then p.0 p.1)) (numbered_not e))
 
-  pair_more : (n : ℕ) → Some n ≡ numeral w → second_pair ws ≡ pair_then n vs
+  pair_more : (n : ℕ) → Some n ≡ numeral w → second_drives ws ≡ pair_then n vs
   pair_more n e = pair_is ∙ ap (λ v. onward v (λ p. pair_then p.0 p.1)) (numbered_some n e)
 
-  pub pair_half : (n : ℕ) → Some n ≡ numeral w → (f : Wrong) → numbered vs ≡ Err f → Err f ≡ second_pair ws
-  pair_half n e f k = sym (pair_more n e ∙ ap (λ v. onward v (λ p. onward (ended p.1) (λ _. Ok (n, p.0)))) k)
+  pub pair_half : (n : ℕ) → Some n ≡ numeral w → (f : Wrong) → numbered vs ≡ Err f → Err f ≡ second_drives ws
+  pair_half n e f k = sym (pair_more n e ∙ ap (λ v. onward v (λ p. onward (ended p.1) (λ _. Ok (drives_of n p.0)))) k)
 
-  pub pair_some : (n : ℕ) → Some n ≡ numeral w → (c : ℕ) (us : List (List ℕ)) → numbered vs ≡ Ok (c, us) → (z : Result (Unit {0}) Wrong) → z ≡ ended us → onward z (λ _. Ok (n, c)) ≡ second_pair ws
-  pair_some n e c us k z h = sym (pair_more n e ∙ ap (λ v. onward v (λ p. onward (ended p.1) (λ _. Ok (n, p.0)))) k ∙ ap (λ v. onward v (λ _. Ok (n, c))) (sym h))
+  pub pair_some : (n : ℕ) → Some n ≡ numeral w → (c : ℕ) (us : List (List ℕ)) → numbered vs ≡ Ok (c, us) → (z : Result (Unit {0}) Wrong) → z ≡ ended us → onward z (λ _. Ok (drives_of n c)) ≡ second_drives ws
+  pair_some n e c us k z h = sym (pair_more n e ∙ ap (λ v. onward v (λ p. onward (ended p.1) (λ _. Ok (drives_of n p.0)))) k ∙ ap (λ v. onward v (λ _. Ok (drives_of n c))) (sym h))
 
   bytes_some : (xs : List ℕ) → xs ≡ [] → bytes_of ws ≡ onward (extended xs w) (λ ys. extended_all ys vs)
   unfolding bytes_of

@@ -4,7 +4,7 @@ use Rattle.bus.specs.declared.fault.BusFault.{BusFault}
 use Rattle.bus.specs.Requests.{Reads, Writes}
 use Rattle.buses.specs.Breaking.{Told, Counts}
 use Rattle.jowlspur.specs.declared.request.Request.{Request}
-use Rattle.jowlspur.specs.declared.request.Request.TheVariants.{Nothing, Bus, Break, Broken, Peek, Poke, Raw}
+use Rattle.jowlspur.specs.declared.request.Request.TheVariants.{Bus, Break, Broken, Peek, Poke, Raw}
 use Rattle.jowlspur.specs.Shelves.{Breaking, behind, on}
 use Rattle.jowlspur.specs.Printing.{answered, answered_bytes, marks_of}
 
@@ -40,10 +40,9 @@ pub record Shows (d b : ℕ) (k l : Breaking) (Prints : List ℕ → Type 0) : T
   pub prints : Prints (answered_bytes answer is)
 
 abbrev pub Carries : Request → Breaking → Breaking → (List ℕ → Type 0) → Type 0
-Carries Nothing k l Prints = Same k l [] Prints
 Carries (Bus v) k l Prints = Same k l (codes "ok") Prints
 Carries (Break d n) k l Prints = Breaks d n k l Prints
 Carries Broken k l Prints = Same k l (marks_of (on k)) Prints
-Carries (Peek d b buffer) k l Prints = Peeks d b (vec_items buffer) k l Prints
-Carries (Poke d b bytes) k l Prints = Pokes d b (vec_items bytes) k l Prints
-Carries (Raw d b) k l Prints = Shows d b k l Prints
+Carries (Peek a buffer) k l Prints = Peeks a.drive a.block (vec_items buffer) k l Prints
+Carries (Poke a bytes) k l Prints = Pokes a.drive a.block (vec_items bytes) k l Prints
+Carries (Raw a) k l Prints = Shows a.drive a.block k l Prints

@@ -14,10 +14,10 @@ refusal n = codes "refused " ++ decimal n
 
 -- the drive and the block of a fault, if a drive was tried
 abbrev pub place : BusFault → List ℕ
-place (NoDrive d b) = []
-place (Length d b) = []
-place (Range d b) = []
-place (Broken d b) = codes " drive " ++ (decimal d ++ (codes " at " ++ decimal b))
+place (NoDrive a) = []
+place (Length a) = []
+place (Range a) = []
+place (Broken a) = codes " drive " ++ (decimal a.drive ++ (codes " at " ++ decimal a.block))
 
 -- the answer to a request, with what is printed behind `ok`
 abbrev pub answered : {U : Type 0} → Result U BusFault → List ℕ → List ℕ

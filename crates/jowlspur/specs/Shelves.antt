@@ -10,10 +10,12 @@ use Rattle.buses.specs.Fitting.{Fit, CapacityMisfit}
 use Rattle.buses.specs.Memory.{held, memory_drives}
 use Rattle.buses.specs.Joined.{joined}
 use Rattle.buses.specs.Breaking.{marked}
-use Rattle.jowlspur.specs.declared.request.Drives.{Drives}
+use Rattle.buses.specs.declared.memory.Drives.{Drives}
+use Rattle.jowlspur.specs.declared.shelf.BusDrives.{BusDrives}
+use Rattle.jowlspur.specs.declared.shelf.Bank.{Bank}
 use Rattle.jowlspur.specs.declared.shelf.Memory.{Memory}
-use Rattle.jowlspur.specs.declared.wrong.Wrong.{Wrong}
-use Rattle.jowlspur.specs.declared.wrong.Wrong.TheVariants.{NoMemory}
+use Rattle.jowlspur.specs.declared.shelf.Unmade.{Unmade}
+use Rattle.jowlspur.specs.declared.shelf.Unmade.TheVariants.{Unfit, NoMemory}
 
 abbrev pub Breaking : Type 0
 Breaking = BreakingBus (JoinedBus MemoryBus MemoryBus)
@@ -26,11 +28,12 @@ behind k = joined (memory_drives k.below.first) (memory_drives k.below.second)
 abbrev pub on : Breaking → List Drive
 on k = marked (behind k) k.left
 
--- the drives that a script's memory holds
+-- the drives that a bank holds, and those of a script's memory
+abbrev pub stocked : Bank → List Drive
+stocked k = held (vec_items k.bytes) k.drives.number k.drives.capacity
+
 abbrev pub kept : Memory → List Drive
-kept m =
-    joined (held (vec_items m.first) m.drives.number m.drives.capacity)
-    (held (vec_items m.second) m.drives.joined_number m.drives.joined_capacity)
+kept m = joined (stocked m.first) (stocked m.second)
 
 -- the bytes that n drives of cap blocks take
 abbrev pub Takes : ℕ → ℕ → Result ℕ Misfit → Type 0
@@ -40,25 +43,42 @@ Takes n cap (Err Capacity) = CapacityMisfit n cap
 Takes n cap (Err Bytes) = ⊥
 
 -- drives that fill a first memory of a bytes and a second of b, and are at most 16
-pub record Filling (v : Drives) (a b : ℕ) : Type 0 where
-  pub first : Fit a v.number v.capacity
-  pub second : Fit b v.joined_number v.joined_capacity
-  pub few : v.number + v.joined_number ≤ 16
+pub record Filling (v : BusDrives) (a b : ℕ) : Type 0 where
+  pub first : Fit a v.first.number v.first.capacity
+  pub second : Fit b v.second.number v.second.capacity
+  pub few : v.first.number + v.second.number ≤ 16
 
-abbrev pub Sizes : Drives → Result (ℕ × ℕ) Misfit → Type 0
-Sizes v (Ok p) = Filling v p.0 p.1
-Sizes v (Err e) = (a b : ℕ) → Filling v a b → ⊥
+-- drives that fit a bus, by the bytes that they take, or don't
+abbrev pub Fits : {U : Type 0} → BusDrives → Result U Misfit → Type 0
+Fits v (Ok u) = (a : ℕ) × (b : ℕ) × Filling v a b
+Fits v (Err e) = (a b : ℕ) → Filling v a b → ⊥
 
 -- n bytes, each a5
 abbrev pub untouched : ℕ → List ℕ
 untouched n = replicate n 165
 
--- memory that was made for drives, or not
-pub record New (v : Drives) (a b : ℕ) (m : Memory) : Type 0 where
-  pub drives : m.drives ≡ v
-  pub first : vec_items m.first ≡ untouched a
-  pub second : vec_items m.second ≡ untouched b
+-- the bank k was made for the drives v, which fill a bytes
+pub record Fresh (v : Drives) (a : ℕ) (k : Bank) : Type 0 where
+  pub drives : k.drives ≡ v
+  pub bytes : vec_items k.bytes ≡ untouched a
 
-abbrev pub Made : Drives → ℕ → ℕ → Result Memory Wrong → Type 0
-Made v a b (Ok m) = New v a b m
-Made v a b (Err e) = e ≡ NoMemory
+abbrev pub Stocked : Drives → Result Bank Unmade → Type 0
+Stocked v (Ok k) = (a : ℕ) × Fit a v.number v.capacity × Fresh v a k
+Stocked v (Err (Unfit e)) = (a : ℕ) → Fit a v.number v.capacity → ⊥
+Stocked v (Err NoMemory) = Unit {0}
+
+-- memory that was made for drives, or not
+pub record New (v : BusDrives) (a b : ℕ) (m : Memory) : Type 0 where
+  pub first : Fresh v.first a m.first
+  pub second : Fresh v.second b m.second
+
+pub record Making (v : BusDrives) (m : Memory) : Type 0 where
+  pub first : ℕ
+  pub second : ℕ
+  pub filling : Filling v first second
+  pub new : New v first second m
+
+abbrev pub Made : BusDrives → Result Memory Unmade → Type 0
+Made v (Ok m) = Making v m
+Made v (Err (Unfit e)) = (a b : ℕ) → Filling v a b → ⊥
+Made v (Err NoMemory) = Unit {0}

@@ -9,10 +9,11 @@ ghost use Rattle.jowlspur.specs.Shelves.{on};
 use crate::request::Request;
 use crate::shelf::{Shelf, raw};
 use crate::wrong::Wrong;
-use bus::{BLOCK, Bus, BusFault};
+use bus::{BLOCK, BlockAddress, Bus, BusFault};
 use script::{show_bytes, show_number};
 use std::alloc::AllocError;
 
+// One part of an answer; `write!` to a `Vec` does not say what stands there when it fails.
 fn put(out: &mut Vec<u8>, text: &[u8]) -> Result<(), AllocError>
     ensures { Written result text.now out.old.items out.new.items }
 {
@@ -24,11 +25,11 @@ fn refused(out: &mut Vec<u8>, fault: BusFault) -> Result<(), AllocError>
     ensures { Grown result (refusal (number_of fault) ++ place fault) out.old.items out.new.items }
 {
     number_refused(out, fault.number())?;
-    if let BusFault::Broken { drive, block } = fault {
+    if let BusFault::Broken(at) = fault {
         put(out, b" drive ")?;
-        show_number(drive as u64, out)?;
+        show_number(at.drive as u64, out)?;
         put(out, b" at ")?;
-        show_number(block as u64, out)?;
+        show_number(at.block as u64, out)?;
     }
     Ok(())
 }
@@ -90,14 +91,13 @@ pub fn complain_of(out: &mut Vec<u8>, number: u64, wrong: Wrong) -> Result<(), A
 
 fn peek(
     shelf: &mut Shelf,
-    drive: usize,
-    block: usize,
+    at: BlockAddress,
     buffer: &mut [u8],
     out: &mut Vec<u8>,
 ) -> Result<(), AllocError>
-    ensures { Peeks drive block buffer.old shelf.old shelf.new (λ text. Grown result text out.old.items out.new.items) }
+    ensures { Peeks at.drive at.block buffer.old shelf.old shelf.new (λ text. Grown result text out.old.items out.new.items) }
 {
-    let answer = shelf.read(drive, block, buffer);
+    let answer = shelf.read(at, buffer);
     shown(out, answer, buffer)
 }
 
@@ -106,23 +106,14 @@ pub fn carry_out(shelf: &mut Shelf, request: Request, out: &mut Vec<u8>) -> Resu
     ensures { Carries request shelf.old shelf.new (λ text. Grown result text out.old.items out.new.items) }
 {
     match request {
-        Request::Nothing => Ok(()),
         Request::Bus(_) => put(out, b"ok"),
         Request::Break { drive, access } => done(out, shelf.break_in(drive, access)),
         Request::Broken => marks(out, shelf),
-        Request::Peek {
-            drive,
-            block,
-            mut buffer,
-        } => peek(shelf, drive, block, buffer.as_mut_slice(), out),
-        Request::Poke {
-            drive,
-            block,
-            bytes,
-        } => done(out, shelf.write(drive, block, bytes.as_slice())),
-        Request::Raw { drive, block } => {
+        Request::Peek { at, mut buffer } => peek(shelf, at, buffer.as_mut_slice(), out),
+        Request::Poke { at, bytes } => done(out, shelf.write(at, bytes.as_slice())),
+        Request::Raw { at } => {
             let mut buffer = [0u8; BLOCK];
-            let answer = raw(shelf, drive, block, &mut buffer);
+            let answer = raw(shelf, at, &mut buffer);
             shown(out, answer, &buffer)
         }
     }

@@ -12,8 +12,8 @@ mod shelf;
 mod wrong;
 
 use crate::answer::{carry_out, complain_of, number_refused};
-use crate::request::{Drives, Request, parse};
-use crate::shelf::{Memory, Shelf, sizes};
+use crate::request::{Request, parse};
+use crate::shelf::{BusDrives, Memory, Shelf, Unmade};
 use crate::wrong::Wrong;
 use anyhow::anyhow;
 use std::alloc::{AllocError, Global};
@@ -33,15 +33,6 @@ struct Console<R, W> {
     out: Vec<u8>,
     // Whether a line was malformed.
     malformed: bool,
-}
-
-// What a line comes to.
-#[derive(Drop)]
-enum Turn {
-    // It was carried out, or not.
-    On,
-    // It starts anew with other drives.
-    Anew(Memory),
 }
 
 impl<R: BufRead, W: Write> Console<R, W> {
@@ -80,51 +71,51 @@ impl<R: BufRead, W: Write> Console<R, W> {
     }
 
     // New memory for a script's drives, where they fit a bus.
-    fn start(&mut self, drives: Drives) -> Result<Turn, AllocError>
+    fn start(&mut self, drives: BusDrives) -> Result<Option<Memory>, AllocError>
         ensures { Starts drives self.old.number self.new.malformed self.old.out.items self.new.out.items result }
     {
-        match sizes(drives) {
-            Err(misfit) => {
-                number_refused(&mut self.out, misfit.number())?;
-                Ok(Turn::On)
+        match Memory::new(self.heap, drives) {
+            Ok(memory) => {
+                self.out.extend_from_slice(b"ok")?;
+                Ok(Some(memory))
             }
-            Ok((first, second)) => match Memory::new(self.heap, drives, first, second) {
-                Ok(memory) => {
-                    self.out.extend_from_slice(b"ok")?;
-                    Ok(Turn::Anew(memory))
-                }
-                Err(wrong) => {
-                    self.complain(wrong)?;
-                    Ok(Turn::On)
-                }
-            },
+            Err(Unmade::Unfit(misfit)) => {
+                number_refused(&mut self.out, misfit.number())?;
+                Ok(None)
+            }
+            Err(Unmade::NoMemory) => {
+                self.complain(Wrong::NoMemory)?;
+                Ok(None)
+            }
         }
     }
 
-    // Carries out the line that was read.
-    fn turn(&mut self, shelf: &mut Shelf, made: bool) -> Result<Turn, AllocError> {
+    // Carries out the line that was read, and gives new memory where it starts anew with other drives.
+    fn turn(&mut self, shelf: &mut Option<Shelf>) -> Result<Option<Memory>, AllocError> {
         match parse(self.heap, self.line.as_slice()) {
             Err(wrong) => self.complain(wrong)?,
-            Ok(Request::Nothing) => {}
-            Ok(Request::Bus(drives)) => return self.start(drives),
-            Ok(request) if made => carry_out(shelf, request, &mut self.out)?,
-            Ok(_) => self.complain(Wrong::NoBus)?,
+            Ok(None) => {}
+            Ok(Some(Request::Bus(drives))) => return self.start(drives),
+            Ok(Some(request)) => match shelf {
+                Some(shelf) => carry_out(shelf, request, &mut self.out)?,
+                None => self.complain(Wrong::NoBus)?,
+            },
         }
-        Ok(Turn::On)
+        Ok(None)
     }
 
-    // Carries out lines up to one that starts anew.
-    fn serve(&mut self, memory: &mut Memory, made: bool) -> io::Result<Option<Memory>> {
-        let mut shelf = memory.shelf();
+    // Carries out lines up to one that starts anew; before its first bus a script has no memory.
+    fn serve(&mut self, memory: &mut Option<Memory>) -> io::Result<Option<Memory>> {
+        let mut shelf = memory.as_mut().map(|memory| memory.shelf());
+        // A count, since nothing shows that a reader ends.
         for _ in 0..u64::MAX {
             if !self.read_line()? {
-                return Ok(None);
+                break;
             }
-            let turn = self.turn(&mut shelf, made)?;
+            let next = self.turn(&mut shelf)?;
             self.print()?;
-            match turn {
-                Turn::On => {}
-                Turn::Anew(next) => return Ok(Some(next)),
+            if next.is_some() {
+                return Ok(next);
             }
         }
         Ok(None)
@@ -133,23 +124,12 @@ impl<R: BufRead, W: Write> Console<R, W> {
 
 // Carries out the whole script.
 fn run<R: BufRead, W: Write>(console: &mut Console<R, W>) -> io::Result<()> {
-    // Before its first bus a script has no drive.
-    let none = Drives {
-        number: 0,
-        capacity: 1,
-        joined_number: 0,
-        joined_capacity: 1,
-    };
-    let heap = console.heap;
-    let mut memory = Memory {
-        drives: none,
-        first: Vec::new(heap),
-        second: Vec::new(heap),
-    };
-    for turn in 0..u64::MAX {
-        match console.serve(&mut memory, turn > 0)? {
-            Some(next) => memory = next,
-            None => break,
+    let mut memory = None;
+    // A count again: a reader may give buses without end.
+    for _ in 0..u64::MAX {
+        memory = console.serve(&mut memory)?;
+        if memory.is_none() {
+            break;
         }
     }
     console.output.flush()

@@ -1,104 +1,146 @@
 // The bus that a script works on: two memory buses joined, under a breaking bus.
-ghost use Rattle.std.specs.Prelude.{◌≡◌, MatchResult};
+ghost use Rattle.std.specs.Prelude.{◌≡◌, IfOk};
 ghost use Rattle.bus.specs.Requests.{Reads};
-ghost use Rattle.buses.specs.Joined.{renamed};
-ghost use Rattle.jowlspur.specs.Shelves.{behind, on, kept, Takes, Sizes, untouched, Made};
+ghost use Rattle.buses.specs.Memory.{memory_drives};
+ghost use Rattle.jowlspur.specs.Shelves.{behind, on, kept, stocked, Takes, Fits, untouched, Stocked, Made};
+ghost use Rattle.jowlspur.specs.declared.shelf.Unmade.TheVariants.{Unfit, NoMemory};
 
-use crate::request::Drives;
-use crate::wrong::Wrong;
-use bus::{BLOCK, Bus, BusFault, MOST_DRIVES};
-use buses::{BreakingBus, JoinedBus, MemoryBus, Misfit};
-use std::alloc::Global;
+use bus::{BLOCK, BlockAddress, Bus, BusFault, MOST_DRIVES};
+use buses::{BreakingBus, Drives, JoinedBus, MemoryBus, Misfit};
+use std::alloc::{AllocError, Global};
 
 pub type Shelf<'a> = BreakingBus<JoinedBus<MemoryBus<'a>, MemoryBus<'a>>>;
+
+// The drives of a script's bus: those of the two buses that it joins.
+#[derive(Clone, Copy, PartialEq, Eq, Debug)]
+pub struct BusDrives {
+    pub first: Drives,
+    pub second: Drives,
+}
+
+// Why there is no memory for a script's drives.
+#[derive(Clone, Copy, PartialEq, Eq, Debug)]
+pub enum Unmade {
+    // They fit no bus.
+    Unfit(Misfit),
+    NoMemory,
+}
+
+impl From<Misfit> for Unmade {
+    ghost from_gives = { λ misfit unmade. unmade ≡ Unfit misfit };
+
+    fn from(misfit: Misfit) -> Unmade {
+        Unmade::Unfit(misfit)
+    }
+}
+
+impl From<AllocError> for Unmade {
+    ghost from_gives = { λ _ unmade. unmade ≡ NoMemory };
+
+    fn from(_: AllocError) -> Unmade {
+        Unmade::NoMemory
+    }
+}
+
+// The bytes that drives take.
+fn size_of_drives(drives: Drives) -> Result<usize, Misfit>
+    ensures { Takes drives.number drives.capacity result }
+{
+    let size = drives
+        .number
+        .saturating_mul(drives.capacity)
+        .saturating_mul(BLOCK);
+    MemoryBus::fit(size, drives)?;
+    Ok(size)
+}
+
+// Whether the drives fit a bus.
+fn fit(drives: BusDrives) -> Result<(), Misfit>
+    ensures { Fits drives result }
+{
+    size_of_drives(drives.first)?;
+    size_of_drives(drives.second)?;
+    if drives.first.number.saturating_add(drives.second.number) > MOST_DRIVES {
+        return Err(Misfit::Count);
+    }
+    Ok(())
+}
+
+// Bytes that were never written: each is a5.
+pub fn fresh(heap: Global, size: usize) -> Result<Vec<u8>, AllocError>
+    ensures { IfOk result (λ v. v.items ≡ untouched size) }
+{
+    vec![in heap; 0xa5u8; size]
+}
+
+// Drives, and the bytes that they fill.
+#[derive(Drop)]
+pub struct Bank {
+    drives: Drives,
+    bytes: Vec<u8>,
+}
+
+impl Bank {
+    fn new(heap: Global, drives: Drives) -> Result<Bank, Unmade>
+        ensures { Stocked drives result }
+    {
+        let size = size_of_drives(drives)?;
+        let bytes = fresh(heap, size)?;
+        Ok(Bank { drives, bytes })
+    }
+
+    fn bus(&mut self) -> MemoryBus<'_>
+        ensures { memory_drives result ≡ stocked self.old }
+    {
+        MemoryBus::new(self.bytes.as_mut_slice(), self.drives)
+    }
+}
 
 // The memory of a script's drives.
 #[derive(Drop)]
 pub struct Memory {
-    pub drives: Drives,
-    pub first: Vec<u8>,
-    pub second: Vec<u8>,
-}
-
-// The bytes that `number` drives of `capacity` blocks take.
-fn size_of_drives(number: usize, capacity: usize) -> Result<usize, Misfit>
-    ensures { Takes number capacity result }
-{
-    let size = number.saturating_mul(capacity).saturating_mul(BLOCK);
-    MemoryBus::fit(size, number, capacity)?;
-    Ok(size)
-}
-
-// The bytes of both memories, where the drives fit a bus.
-pub fn sizes(drives: Drives) -> Result<(usize, usize), Misfit>
-    ensures { Sizes drives result }
-{
-    let first = size_of_drives(drives.number, drives.capacity)?;
-    let second = size_of_drives(drives.joined_number, drives.joined_capacity)?;
-    if drives.number.saturating_add(drives.joined_number) > MOST_DRIVES {
-        return Err(Misfit::Count);
-    }
-    Ok((first, second))
-}
-
-// Every byte of a new drive is a5.
-fn fresh(heap: Global, size: usize) -> Result<Vec<u8>, Wrong>
-    ensures { MatchResult result (λ v. v.items ≡ untouched size) (λ e. e ≡ Wrong.NoMemory) }
-{
-    match vec![in heap; 0xa5u8; size] {
-        Ok(bytes) => Ok(bytes),
-        Err(_) => Err(Wrong::NoMemory),
-    }
+    first: Bank,
+    second: Bank,
 }
 
 impl Memory {
-    pub fn new(heap: Global, drives: Drives, first: usize, second: usize) -> Result<Memory, Wrong>
-        ensures { Made drives first second result }
+    // Memory for new drives, where they fit a bus.
+    pub fn new(heap: Global, drives: BusDrives) -> Result<Memory, Unmade>
+        ensures { Made drives result }
     {
-        Ok(Memory {
-            drives,
-            first: fresh(heap, first)?,
-            second: fresh(heap, second)?,
-        })
+        fit(drives)?;
+        let first = Bank::new(heap, drives.first)?;
+        let second = Bank::new(heap, drives.second)?;
+        Ok(Memory { first, second })
     }
 
     pub fn shelf(&mut self) -> Shelf<'_>
         ensures behind { behind result ≡ kept self.old }
         ensures unbroken { on result ≡ kept self.old }
     {
-        let drives = self.drives;
-        let first = MemoryBus::new(self.first.as_mut_slice(), drives.number, drives.capacity);
-        let second = MemoryBus::new(
-            self.second.as_mut_slice(),
-            drives.joined_number,
-            drives.joined_capacity,
-        );
+        let first = self.first.bus();
+        let second = self.second.bus();
         BreakingBus::new(JoinedBus::new(first, second))
     }
 }
 
-// The same answer, with its fault at the drive `d`.
-fn at_drive(answer: Result<(), BusFault>, d: usize) -> Result<(), BusFault>
-    ensures { result ≡ renamed d answer }
-{
-    match answer {
-        Ok(()) => Ok(()),
-        Err(fault) => Err(fault.at_drive(d)),
-    }
-}
-
-// The block `b` behind the drive `d`, broken or not.
-pub fn raw(shelf: &Shelf, d: usize, b: usize, buf: &mut [u8]) -> Result<(), BusFault>
-    ensures { Reads (behind shelf.now) (behind shelf.now) d b buf.old buf.new result }
+// The block `at`, its drive broken or not.
+pub fn raw(shelf: &Shelf, at: BlockAddress, buf: &mut [u8]) -> Result<(), BusFault>
+    ensures { Reads (behind shelf.now) (behind shelf.now) at.drive at.block buf.old buf.new result }
 {
     let memories = shelf.below();
-    if d >= memories.count() {
-        return Err(BusFault::NoDrive { drive: d, block: b });
+    if at.drive >= memories.count() {
+        return Err(BusFault::NoDrive(at));
     }
     let n = memories.first().count();
-    if d < n {
-        at_drive(memories.first().peek(d, b, buf), d)
+    if at.drive < n {
+        memories.first().peek(at, buf)
     } else {
-        at_drive(memories.second().peek(d - n, b, buf), d)
+        let below = BlockAddress {
+            drive: at.drive - n,
+            ..at
+        };
+        let read = memories.second().peek(below, buf);
+        read.map_err(|fault| fault.at_drive(at.drive))
     }
 }

@@ -1,6 +1,11 @@
 // What is wrong with a line that is not carried out.
 ghost use Rattle.std.specs.Prelude.{◌≡◌};
+ghost use Rattle.jowlspur.specs.Wrongs.{wrong_of};
 ghost use Rattle.jowlspur.specs.Printing.{complaint};
+ghost use Rattle.jowlspur.specs.declared.wrong.Wrong.TheVariants.{NoMemory};
+
+use script::BytesFault;
+use std::alloc::AllocError;
 
 #[derive(Clone, Copy, PartialEq, Eq, Debug)]
 pub enum Wrong {
@@ -15,7 +20,28 @@ pub enum Wrong {
     NoMemory,
 }
 
+impl From<BytesFault> for Wrong {
+    ghost from_gives = { λ fault wrong. wrong ≡ wrong_of fault };
+
+    fn from(fault: BytesFault) -> Wrong {
+        match fault {
+            BytesFault::Malformed => Wrong::Bytes,
+            BytesFault::TooLong => Wrong::TooLong,
+            BytesFault::NoMemory => Wrong::NoMemory,
+        }
+    }
+}
+
+impl From<AllocError> for Wrong {
+    ghost from_gives = { λ _ wrong. wrong ≡ NoMemory };
+
+    fn from(_: AllocError) -> Wrong {
+        Wrong::NoMemory
+    }
+}
+
 impl Wrong {
+    // Bytes and no `Display`: `write!` to a `Vec` does not say what stands there when it fails.
     pub fn text(self) -> &'static [u8]
         ensures { result.now ≡ complaint self }
     {

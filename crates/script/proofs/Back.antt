@@ -8,8 +8,7 @@ use Rattle.std.proofs.ByRecursion.{All-append, All-push, All-weaker, All-map}
 use Rattle.std.proofs.lemmas.List.{length-append}
 use Rattle.std.proofs.lemmas.Bool.{ne_eqb, eq-eqb, le-leb, and_from, cond-true, eqb-true, eqb-false}
 use Rattle.std.proofs.lemmas.Bool.Decides.{nat_tests}
-use Rattle.script.specs.declared.kind.Kind.TheVariants.{Solid}
-use Rattle.script.specs.Kinds.{is, blank, hash}
+use Rattle.script.specs.Kinds.{blank, hash, solid}
 use Rattle.script.specs.Laws.{Word, Apart}
 use Rattle.script.specs.Lines.{ended, words_after, words}
 use Rattle.script.specs.Numerals.{and_then, value_after, fitting, numeral, cut_at}
@@ -21,7 +20,7 @@ use Rattle.script.proofs.Wording.{ended_some}
 
 -- words
 
-words_on : (u w rest : List ℕ) → AllByRecursion (λ c. is Solid c ≡ true) w → words_after u (w ++ rest) ≡ words_after (u ++ w) rest
+words_on : (u w rest : List ℕ) → AllByRecursion (λ c. solid c ≡ true) w → words_after u (w ++ rest) ≡ words_after (u ++ w) rest
 words_on u [] rest h = ap (λ x. words_after x rest) (sym (append-nil u))
 words_on u (c ∷ w) rest h = by (blank c) (hash c) h.0 (words_on (u ++ c ∷ []) w rest h.1 ∙ ap (λ x. words_after x rest) (append_assoc u (c ∷ []) w))
   where
@@ -35,18 +34,18 @@ words_back [] h = refl
 words_back (w ∷ []) h = ap words (sym (append-nil w)) ∙ words_on [] w [] h.0.1 ∙ ended_some w h.0.0
 words_back (w ∷ v ∷ ws) h = words_on [] w (32 ∷ spaced (v ∷ ws)) h.0.1 ∙ (λ i. ended_some w h.0.0 i ++ words_back (v ∷ ws) h.1 i)
 
-ended_sound : (u : List ℕ) → AllByRecursion (λ c. is Solid c ≡ true) u → AllByRecursion Word (ended u)
+ended_sound : (u : List ℕ) → AllByRecursion (λ c. solid c ≡ true) u → AllByRecursion Word (ended u)
 ended_sound [] h = tt
 ended_sound (c ∷ u) h = ((omega arith, h), tt)
 
-pub words_sound : (u l : List ℕ) → AllByRecursion (λ c. is Solid c ≡ true) u → AllByRecursion Word (words_after u l)
+pub words_sound : (u l : List ℕ) → AllByRecursion (λ c. solid c ≡ true) u → AllByRecursion Word (words_after u l)
 words_sound u [] h = ended_sound u h
 words_sound u (c ∷ cs) h = by (blank c) (hash c) refl refl (words_sound [] cs tt) (words_sound (u ++ c ∷ []) cs)
   where
-    by : (b t : Bool) → blank c ≡ b → hash c ≡ t → AllByRecursion Word (words cs) → (AllByRecursion (λ x. is Solid x ≡ true) (u ++ c ∷ []) → AllByRecursion Word (words_after (u ++ c ∷ []) cs)) → AllByRecursion Word (cond b (ended u ++ words cs) (cond t (ended u) (words_after (u ++ c ∷ []) cs)))
+    by : (b t : Bool) → blank c ≡ b → hash c ≡ t → AllByRecursion Word (words cs) → (AllByRecursion (λ x. solid x ≡ true) (u ++ c ∷ []) → AllByRecursion Word (words_after (u ++ c ∷ []) cs)) → AllByRecursion Word (cond b (ended u ++ words cs) (cond t (ended u) (words_after (u ++ c ∷ []) cs)))
     by true t eb et next on = All-append Word (ended u) (words cs) (ended_sound u h) next
     by false true eb et next on = ended_sound u h
-    by false false eb et next on = on (All-push (λ x. is Solid x ≡ true) u c h (simp (eb, et)))
+    by false false eb et next on = on (All-push (λ x. solid x ≡ true) u c h (simp (eb, et)))
 
 -- numbers
 
@@ -83,7 +82,7 @@ cut_front at (c ∷ w) xs h = rw (ne_eqb c at h.0) (ap (λ o. and_then o (λ (p 
 
 -- runs
 
-solid_from : (c : ℕ) → 42 ≤ c → is Solid c ≡ true
+solid_from : (c : ℕ) → 42 ≤ c → solid c ≡ true
 solid_from c h = simp (ne_eqb c 32 (λ e. omega arith), ne_eqb c 9 (λ e. omega arith), ne_eqb c 35 (λ e. omega arith))
 
 hex_char : (d : ℕ) → d < 16 → (42 ≤ digit_char d) × (is_ascii_hexdigit (digit_char d) ≡ true) × (hex_value (digit_char d) ≡ d)
@@ -108,9 +107,9 @@ run_word : (n b : ℕ) → n < 2 ^ 64 → b < 256 → Word (shown_run (n, b))
 run_word n b h k =
     let high = hex_char (b / 16) (omega arith) in
     let low = hex_char (b % 16) (omega arith) in
-    let front = All-weaker (λ c. IsInRange 48 57 c) (λ c. is Solid c ≡ true) (λ c i. solid_from c (omega arith)) (decimal n) (decimal_digits n h).1 in (
+    let front = All-weaker (λ c. IsInRange 48 57 c) (λ c. solid c ≡ true) (λ c i. solid_from c (omega arith)) (decimal n) (decimal_digits n h).1 in (
       omega (arith, (decimal_digits n h).0, length-append (decimal n) (42 ∷ digit_char (b / 16) ∷ digit_char (b % 16) ∷ [])),
-      All-append (λ c. is Solid c ≡ true) (decimal n) (42 ∷ digit_char (b / 16) ∷ digit_char (b % 16) ∷ []) front (refl, (solid_from _ high.0, (solid_from _ low.0, tt))),
+      All-append (λ c. solid c ≡ true) (decimal n) (42 ∷ digit_char (b / 16) ∷ digit_char (b % 16) ∷ []) front (refl, (solid_from _ high.0, (solid_from _ low.0, tt))),
     )
 
 -- a run that can be printed

@@ -1,4 +1,5 @@
 pub mod Back
+pub mod Prefix
 pub mod Reading
 pub mod Runs
 pub mod Spelt

@@ -1,11 +1,10 @@
 -- Digit by digit. Assumes nothing.
-use Rattle.std.proofs.Common.{◌≡◌, ℕ, ◌+◌, ◌-◌, ◌*◌, ◌^◌, ◌<◌, ◌≤◌, Bool, true, false, cond, not, eqb, ltb, List, [], ◌∷◌, length, take, drop, Some, None, Option, refl, ap, one-add, arith}
+use Rattle.std.proofs.Common.{◌≡◌, ℕ, ◌+◌, ◌-◌, ◌*◌, ◌^◌, ◌<◌, ◌≤◌, Bool, true, false, cond, not, eqb, ltb, List, [], ◌∷◌, length, take, drop, Some, None, Option, unwrap_or, refl, ap, ◌∙◌, subst, add_comm, one-add, arith}
 use Rattle.std.specs.Char.{is_ascii_digit}
 use Rattle.std.proofs.lemmas.Bool.{le-ltb, lt-ltb, cond-true, cond-false, ltb-true, ltb-false}
 use Rattle.script.specs.Numerals.{and_then, value_after, fitting, numeral, cut_at}
 use Rattle.std.specs.List.{prefix_len}
-use Rattle.script.specs.declared.kind.Kind.TheVariants.{Other}
-use Rattle.script.specs.Kinds.{is}
+use Rattle.script.proofs.Prefix.{First, leading_is}
 
 -- a number that 64 bits do not hold grows no smaller
 pub too_large : (m : ℕ) (cs : List ℕ) → 2 ^ 64 ≤ m → and_then (value_after m cs) fitting ≡ None
@@ -49,12 +48,12 @@ taken_fits n c m = by (is_ascii_digit c) (ltb (n * 10 + (c - 48)) (2 ^ 64)) refl
     by true false h e = let z : ◌≡◌ {A = ℕ} 0 1 = cc in absurd (omega arith)
     by false t h e = let z : ◌≡◌ {A = ℕ} 0 1 = cc in absurd (omega arith)
 
+-- what stands before the first `at`, and what behind it, by its place
 module _ (at : ℕ) where
-  -- how many bytes stand before the first `at`
   abbrev to : List ℕ → ℕ
-  to w = prefix_len (is (Other at)) w
+  to w = prefix_len (λ c. not (eqb c at)) w
 
-  pub cut_none : (w : List ℕ) → length w ≤ to w → cut_at at w ≡ None
+  cut_none : (w : List ℕ) → length w ≤ to w → cut_at at w ≡ None
   cut_none [] h = refl
   cut_none (x ∷ xs) h = by (eqb x at) h (cut_none xs)
     where
@@ -62,11 +61,23 @@ module _ (at : ℕ) where
       by true h more = absurd (omega arith)
       by false h more = ap (λ o. and_then o (λ (p : List ℕ × List ℕ). Some (x ∷ p.0, p.1))) (more (omega arith))
 
-  pub cut_some : (w : List ℕ) → to w < length w → cut_at at w ≡ Some (take (to w) w, drop 1 (drop (to w) w))
+  cut_some : (w : List ℕ) → to w < length w → cut_at at w ≡ Some (take (to w) w, drop (1 + to w) w)
   cut_some [] h = absurd (omega arith)
   cut_some (x ∷ xs) h = by (eqb x at) h (cut_some xs)
     where
-      by : (b : Bool) → cond (not b) (1 + to xs) 0 < length (x ∷ xs) → (to xs < length xs → cut_at at xs ≡ Some (take (to xs) xs, drop 1 (drop (to xs) xs))) →
-          cond {A = Option (List ℕ × List ℕ)} b (Some ([], xs)) (and_then (cut_at at xs) (λ p. Some (x ∷ p.0, p.1))) ≡ Some (take (cond (not b) (1 + to xs) 0) (x ∷ xs), drop 1 (drop (cond (not b) (1 + to xs) 0) (x ∷ xs)))
+      by : (b : Bool) → cond (not b) (1 + to xs) 0 < length (x ∷ xs) → (to xs < length xs → cut_at at xs ≡ Some (take (to xs) xs, drop (1 + to xs) xs)) →
+          cond {A = Option (List ℕ × List ℕ)} b (Some ([], xs)) (and_then (cut_at at xs) (λ p. Some (x ∷ p.0, p.1))) ≡ Some (take (cond (not b) (1 + to xs) 0) (x ∷ xs), drop (1 + cond (not b) (1 + to xs) 0) (x ∷ xs))
       by true h more = refl
-      by false h more = rw one-add (ap (λ o. and_then o (λ (p : List ℕ × List ℕ). Some (x ∷ p.0, p.1))) (more (omega arith)))
+      by false h more = ap (λ o. and_then o (λ (p : List ℕ × List ℕ). Some (x ∷ p.0, p.1))) (more (omega arith)) ∙ simp one-add
+
+  module _ (w : List ℕ) (r : Option ℕ) where
+    pub cut_at_none : r ≡ None → First (λ c. not (eqb c at)) w r → cut_at at w ≡ None
+    cut_at_none e first =
+        let whole : to w ≡ length w = leading_is _ w r first ∙ ap (λ o. unwrap_or o (length w)) e in
+        cut_none w (omega arith)
+
+    pub cut_at_some : (i : ℕ) → r ≡ Some i → First (λ c. not (eqb c at)) w r → cut_at at w ≡ Some (take i w, drop (i + 1) w)
+    cut_at_some i e first =
+        let place : to w ≡ i = leading_is _ w r first ∙ ap (λ o. unwrap_or o (length w)) e in
+        let within : i < length w = (subst (First (λ c. not (eqb c at)) w) e first).0 in
+        cut_some w (omega arith) ∙ (λ k. Some (take (place k) w, drop (1 + place k) w)) ∙ ap (λ n. Some (take i w, drop n w)) (add_comm 1 i)

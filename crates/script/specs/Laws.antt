@@ -1,8 +1,7 @@
 -- What is printed reads back, and what is read has the form that it should have. Assumes nothing.
 use Rattle.std.specs.Prelude.{◌≡◌, ℕ, ◌^◌, ◌<◌, true, List, [], ◌∷◌, ◌++◌, length, replicate, Some, decimal, ◌≢◌}
 use Rattle.std.specs.List.{flat_map, AllByRecursion}
-use Rattle.script.specs.declared.kind.Kind.TheVariants.{Solid}
-use Rattle.script.specs.Kinds.{is}
+use Rattle.script.specs.Kinds.{solid}
 use Rattle.script.specs.Lines.{words}
 use Rattle.script.specs.Numerals.{numeral, triple}
 use Rattle.script.specs.Showing.{runs, spaced, shown}
@@ -10,7 +9,7 @@ use Rattle.script.specs.Spelling.{spelled_all}
 
 -- one byte or more, and no blank or hash among them
 abbrev pub Word : List ℕ → Type 0
-Word w = (0 < length w) × AllByRecursion (λ c. is Solid c ≡ true) w
+Word w = (0 < length w) × AllByRecursion (λ c. solid c ≡ true) w
 
 -- every word of a line is one, and words with a space between each two read as those words
 abbrev pub WordsRead : Type 0

@@ -49,13 +49,6 @@ abbrev pub spelled_all : List (List ℕ) → Option (List ℕ)
 spelled_all [] = Some []
 spelled_all (w ∷ ws) = and_then (spelled w) (λ bs. and_then (spelled_all ws) (λ cs. Some (bs ++ cs)))
 
--- room for more bytes behind len of them, within limit and the capacity cap, with the answer r
-abbrev pub Roomy : ℕ → ℕ → ℕ → ℕ → Result (Unit {0}) BytesFault → Type 0
-Roomy more limit len cap (Ok _) = (len + more ≤ limit) × (len + more ≤ cap)
-Roomy more limit len cap (Err Malformed) = ⊥
-Roomy more limit len cap (Err TooLong) = limit < len + more
-Roomy more limit len cap (Err NoMemory) = len + more ≤ limit
-
 -- a word that stands for o was added to the bytes `was`, of which at most limit are allowed, with the answer r
 abbrev pub Added : Option (List ℕ) → ℕ → List ℕ → List ℕ → Result (Unit {0}) BytesFault → Type 0
 Added o limit was is (Ok _) = (bs : List ℕ) × (o ≡ Some bs) × (length was + length bs ≤ limit) × (is ≡ was ++ bs)

@@ -1,8 +1,9 @@
-ghost use Rattle.std.specs.Prelude.{◌≡◌, ◌+◌, ◌/◌, ◌<◌, ◌≤◌, ◌++◌, length, replicate, vec_len, vec_capacity};
-ghost use Rattle.script.specs.Spelling.{hex_value, pair, one_byte, paired, plain, run, spelled, Roomy, Added};
+ghost use Rattle.std.specs.Prelude.{◌≡◌, ◌+◌, ◌/◌, is_some, ◌<◌, ◌≤◌, ◌++◌, length, replicate, vec_len, vec_capacity, MatchResult};
+ghost use Rattle.script.specs.Spelling.{hex_value, pair, one_byte, paired, plain, run, spelled, Added};
+ghost use Rattle.script.specs.declared.bytes.BytesFault.TheVariants.{TooLong, NoMemory};
 
-use crate::kind::Kind;
 use crate::numbers::{cut, number};
+use std::alloc::AllocError;
 
 /// Why a word adds nothing to a byte string.
 #[derive(Clone, Copy, PartialEq, Eq, Debug)]
@@ -15,17 +16,20 @@ pub enum BytesFault {
     NoMemory,
 }
 
+impl From<AllocError> for BytesFault {
+    ghost from_gives = { λ _ fault. fault ≡ NoMemory };
+
+    fn from(_: AllocError) -> BytesFault {
+        BytesFault::NoMemory
+    }
+}
+
 // The value of a hexadecimal digit, and 0 for any other byte.
 fn hex_value(digit: u8) -> u8
     ensures value { result ≡ hex_value digit }
     ensures bound { result < 16 }
 {
-    match digit {
-        b'0'..=b'9' => digit - b'0',
-        b'A'..=b'F' => digit - b'A' + 10,
-        b'a'..=b'f' => digit - b'a' + 10,
-        _ => 0,
-    }
+    char::from(digit).to_digit(16).unwrap_or(0) as u8
 }
 
 fn pair_value(high: u8, low: u8) -> u8
@@ -38,51 +42,21 @@ fn pair_value(high: u8, low: u8) -> u8
 fn hex_byte(digits: &[u8]) -> Option<u8>
     ensures { result ≡ one_byte digits.now }
 {
-    let [high, low] = digits else {
-        return None;
-    };
-    if !high.is_ascii_hexdigit() {
-        return None;
-    }
-    if !low.is_ascii_hexdigit() {
-        return None;
-    }
-    Some(pair_value(*high, *low))
-}
-
-// Makes room for `more` bytes, if `out` may have them.
-fn make_room(more: usize, limit: usize, out: &mut Vec<u8>) -> Result<(), BytesFault>
-    ensures same { out.new.items ≡ out.old.items }
-    ensures len { vec_len out.new ≡ vec_len out.old }
-    ensures cases { Roomy more limit (vec_len out.old) (vec_capacity out.new) result }
-{
-    if out.len() > limit {
-        return Err(BytesFault::TooLong);
-    }
-    if more > limit - out.len() {
-        return Err(BytesFault::TooLong);
-    }
-    match out.try_reserve(more) {
-        Ok(()) => Ok(()),
-        Err(_) => Err(BytesFault::NoMemory),
+    match digits {
+        [high, low] if high.is_ascii_hexdigit() && low.is_ascii_hexdigit() => {
+            Some(pair_value(*high, *low))
+        }
+        _ => None,
     }
 }
 
-fn push_run(n: usize, b: u8, out: &mut Vec<u8>)
-    requires { vec_len out.old + n ≤ vec_capacity out.old }
-    ensures { out.new.items ≡ out.old.items ++ replicate n b }
+// The length with `more` bytes behind `len`, if `limit` allows it.
+fn longer(len: usize, more: usize, limit: usize) -> Result<usize, BytesFault>
+    ensures { MatchResult result (λ n. (n ≡ len + more) × (len + more ≤ limit)) (λ fault. (fault ≡ BytesFault.TooLong) × (limit < len + more)) }
 {
-    for _i in 0..n {
-        out.push_reserved(b);
-    }
-}
-
-fn push_pairs(digits: &[u8], out: &mut Vec<u8>)
-    requires { vec_len out.old + length digits.now / 2 ≤ vec_capacity out.old }
-    ensures { out.new.items ≡ out.old.items ++ paired digits.now }
-{
-    for i in 0..digits.len() / 2 {
-        out.push_reserved(pair_value(digits[2 * i], digits[2 * i + 1]));
+    match len.checked_add(more) {
+        Some(total) if total <= limit => Ok(total),
+        _ => Err(BytesFault::TooLong),
     }
 }
 
@@ -90,38 +64,43 @@ fn push_pairs(digits: &[u8], out: &mut Vec<u8>)
 fn add_run(count: &[u8], value: &[u8], limit: usize, out: &mut Vec<u8>) -> Result<(), BytesFault>
     ensures { Added (run count.now value.now) limit out.old.items out.new.items result }
 {
-    let Some(n) = number(count) else {
-        return Err(BytesFault::Malformed);
-    };
-    let Some(b) = hex_byte(value) else {
-        return Err(BytesFault::Malformed);
-    };
-    match make_room(n as usize, limit, out) {
-        Ok(()) => {
-            push_run(n as usize, b, out);
-            Ok(())
-        }
-        Err(fault) => Err(fault),
+    let n = number(count).ok_or(BytesFault::Malformed)?;
+    let b = hex_byte(value).ok_or(BytesFault::Malformed)?;
+    let total = longer(out.len(), n as usize, limit)?;
+    out.resize(total, b)?;
+    Ok(())
+}
+
+// Adds the bytes of the digits two by two. There is room for them, so unlike `extend` it cannot fail.
+fn push_pairs(digits: &[u8], out: &mut Vec<u8>)
+    requires { vec_len out.old + length digits.now / 2 ≤ vec_capacity out.old }
+    ensures { out.new.items ≡ out.old.items ++ paired digits.now }
+{
+    let (pairs, _) = digits.as_chunks::<2>();
+    for [high, low] in pairs {
+        out.push_reserved(pair_value(*high, *low));
     }
+}
+
+// Whether a word is an even number of hexadecimal digits.
+fn is_plain(word: &[u8]) -> bool
+    ensures { result ≡ (is_some (plain word.now)) }
+{
+    word.iter().all(|digit| digit.is_ascii_hexdigit()) && word.len() % 2 == 0
 }
 
 // Adds the bytes of a word of hexadecimal digits.
 fn add_plain(word: &[u8], limit: usize, out: &mut Vec<u8>) -> Result<(), BytesFault>
     ensures { Added (plain word.now) limit out.old.items out.new.items result }
 {
-    if word.len() % 2 != 0 {
+    if !is_plain(word) {
         return Err(BytesFault::Malformed);
     }
-    if Kind::Hex.leading(word) < word.len() {
-        return Err(BytesFault::Malformed);
-    }
-    match make_room(word.len() / 2, limit, out) {
-        Ok(()) => {
-            push_pairs(word, out);
-            Ok(())
-        }
-        Err(fault) => Err(fault),
-    }
+    let more = word.len() / 2;
+    longer(out.len(), more, limit)?;
+    out.try_reserve(more)?;
+    push_pairs(word, out);
+    Ok(())
 }
 
 /// Appends the bytes that one word of a byte string stands for, unless `out` would become longer than `limit`.

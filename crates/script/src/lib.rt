@@ -4,7 +4,7 @@
 ghost use Rattle.script.specs.Laws.{WordsRead, NumbersRead, TriplesRead, RunsLongest, BytesRead};
 
 mod bytes;
-mod kind;
+mod front;
 mod line;
 mod numbers;
 mod show;
@@ -30,9 +30,8 @@ mod tests {
 
     #[test]
     fn counts_words(rt: HostRuntime) -> Result<(), Fail> {
-        let mut words = Words::new(b"write\t0  512*42#all of it");
         let mut n = 0usize;
-        while let Some(word) = words.next_word() {
+        for word in Words::new(b"write\t0  512*42#all of it") {
             n = n.saturating_add(word.len());
         }
         assert_eq!(rt; n, 12);

@@ -1,7 +1,22 @@
-ghost use Rattle.std.specs.Prelude.{◌≡◌, ◌<◌, ◌≤◌, [], ◌∷◌, length, IfSome, MatchOption};
+ghost use Rattle.std.specs.Prelude.{◌≡◌, ◌<◌, ◌≤◌, length, MatchOption};
+ghost use Rattle.std.specs.Iterator.{YieldsFirstBy, item_count};
+ghost use Rattle.script.specs.Kinds.{blank, solid};
 ghost use Rattle.script.specs.Lines.{words};
 
-use crate::kind::Kind;
+use crate::front::leading;
+
+fn is_blank(b: u8) -> bool
+    ensures { result ≡ blank b }
+{
+    b == b' ' || b == b'\t'
+}
+
+// The bytes that words are made of.
+fn is_solid(b: u8) -> bool
+    ensures { result ≡ solid b }
+{
+    !is_blank(b) && b != b'#'
+}
 
 /// The words of one line, first to last. A `#` ends the line.
 #[derive(Clone, Copy)]
@@ -16,20 +31,22 @@ impl<'a> Words<'a> {
     {
         Words { rest: line }
     }
+}
+
+impl<'a> Iterator for Words<'a> {
+    type Item = &'a [u8];
+
+    // It gives the first of the words that are left, which has a byte at least, and leaves the others.
+    ghost next_gives = { λ s r t. YieldsFirstBy (λ w. w.now) (λ u. words u.rest.now) s r t × MatchOption r (length t.rest.now ≤ length s.rest.now) (λ w. (0 < length w.now) × (length t.rest.now < length s.rest.now)) };
+
+    ghost remaining = { item_count (λ s. words s.rest.now) };
 
     /// The next word, and none past the last.
-    pub fn next_word(&mut self) -> Option<&'a [u8]>
-        ensures next { MatchOption result ((words self.old.rest.now ≡ []) × (words self.new.rest.now ≡ [])) (λ w. words self.old.rest.now ≡ w.now ∷ words self.new.rest.now) }
-        ensures falls { MatchOption result (length self.new.rest.now ≤ length self.old.rest.now) (λ w. length self.new.rest.now < length self.old.rest.now) }
-        ensures some { IfSome result (λ w. 0 < length w.now) }
-    {
+    fn next(&mut self) -> Option<&'a [u8]> {
         let line = self.rest;
-        let (_, unread) = line.split_at(Kind::Blank.leading(line));
-        let (word, rest) = unread.split_at(Kind::Solid.leading(unread));
+        let (_, unread) = line.split_at(leading(line, is_blank));
+        let (word, rest) = unread.split_at(leading(unread, is_solid));
         self.rest = rest;
-        if word.is_empty() {
-            return None;
-        }
-        Some(word)
+        if word.is_empty() { None } else { Some(word) }
     }
 }

@@ -2,17 +2,12 @@ ghost use Rattle.std.specs.Prelude.{◌≡◌, ◌+◌, ◌-◌, ◌*◌, if◌t
 ghost use Rattle.std.specs.Char.{is_ascii_digit};
 ghost use Rattle.script.specs.Numerals.{fitting, numeral, cut_at, triple};
 
-use crate::kind::Kind;
-
 // The number whose digits are those of `n` and then `digit`.
 fn append(n: u64, digit: u8) -> Option<u64>
     ensures { result ≡ (if is_ascii_digit digit then fitting (n * 10 + (digit - 48)) else None) }
 {
-    if !digit.is_ascii_digit() {
-        return None;
-    }
-    let tens = n.checked_mul(10)?;
-    tens.checked_add(u64::from(digit - b'0'))
+    let value = char::from(digit).to_digit(10)?;
+    n.checked_mul(10)?.checked_add(u64::from(value))
 }
 
 /// The number that a word of decimal digits stands for, if 64 bits hold it.
@@ -22,6 +17,7 @@ pub fn number(word: &[u8]) -> Option<u64>
     if word.is_empty() {
         return None;
     }
+    // Not `parse`, which takes a plus sign in front of the digits too.
     let mut n = 0;
     for digit in word {
         n = append(n, *digit)?;
@@ -33,11 +29,8 @@ pub fn number(word: &[u8]) -> Option<u64>
 pub(crate) fn cut(word: &[u8], at: u8) -> Option<(&[u8], &[u8])>
     ensures { MatchOption result (cut_at at word.now ≡ None) (λ p. cut_at at word.now ≡ Some (p.0.now, p.1.now)) }
 {
-    let (front, back) = word.split_at(Kind::Other(at).leading(word));
-    if back.is_empty() {
-        return None;
-    }
-    Some((front, &back[1..]))
+    let i = word.iter().position(|b| *b == at)?;
+    Some((&word[..i], &word[i + 1..]))
 }
 
 /// Three numbers with a colon between them, as `0:0:12`.

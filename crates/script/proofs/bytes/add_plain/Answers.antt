@@ -1,25 +1,31 @@
-use Rattle.std.proofs.Common.{◌++◌, vec_capacity, refl, ap, ◌∙◌, arith}
+use Rattle.std.proofs.Common.{◌++◌, refl, sym, ap, ◌∙◌, arith}
+use Rattle.std.proofs.lemmas.Result.{err_from_is_err_and}
 use Rattle.script.specs.Spelling.{paired}
-use Rattle.script.proofs.Spelt.{plain_odd, plain_other, plain_whole, length_paired, not_added}
+use Rattle.script.proofs.Spelt.{stands_for_none, plain_paired, length_paired, too_long}
 use Rattle.script.proofs.bytes.add_plain.Goals as goal
 
-pub returns-then-word-ne0 : goal.returns-then-word-ne0
-returns-then-word-ne0 c = (plain_odd c.args.word.now c.if-word-ne0.true, refl)
+pub returns-then-not-is_plain : goal.returns-then-not-is_plain
+returns-then-not-is_plain c = (stands_for_none _ (sym c.is_plain.ensures ∙ c.if-not-is_plain.true), refl)
 
-pub returns-then-leading-word : goal.returns-then-leading-word
-returns-then-leading-word c = (plain_other c.args.word.now (omega arith), refl)
+pub returns-in_err-longer : goal.returns-in_err-longer
+returns-in_err-longer c =
+    let w = c.args.word.now in
+    let means = plain_paired w (sym c.is_plain.ensures ∙ c.if-not-is_plain.false) in
+    let p = err_from_is_err_and c.from_residual.result c.from_residual.ensures.1 in
+    rw (p.1, p.2) (too_long _ (paired w) _ _ _ _ _ _ means (length_paired w) (c.len.ensures ∙ c.args.out.now.ok.0) refl c.in_err-longer.ensures)
 
-pub returns-in-Ok : goal.returns-in-Ok
-returns-in-Ok c =
+pub returns-in_err-try_reserve : goal.returns-in_err-try_reserve
+returns-in_err-try_reserve c =
+    let w = c.args.word.now in
+    let means = plain_paired w (sym c.is_plain.ensures ∙ c.if-not-is_plain.false) in
+    let p = err_from_is_err_and c.from_residual-in_err-try_reserve.result c.from_residual-in_err-try_reserve.ensures.1 in
+    rw (p.1, p.2) (paired w, means, omega (arith, length_paired w, c.len.ensures, c.args.out.now.ok.0, c.in_ok-longer.ensures), c.try_reserve.ensures.items)
+
+pub returns : goal.returns
+returns c =
     let w = c.args.word.now in (
       paired w,
-      plain_whole w c.if-word-ne0.false (omega arith),
-      omega (arith, length_paired w, c.in-Ok.ensures.cases.0, c.args.out.now.ok.0),
-      c.push_pairs.ensures ∙ ap (λ l. l ++ paired w) c.make_room.ensures.same,
+      plain_paired w (sym c.is_plain.ensures ∙ c.if-not-is_plain.false),
+      omega (arith, length_paired w, c.len.ensures, c.args.out.now.ok.0, c.in_ok-longer.ensures),
+      c.push_pairs.ensures ∙ ap (λ l. l ++ paired w) c.try_reserve.ensures.items,
     )
-
-pub returns-in-Err : goal.returns-in-Err
-returns-in-Err c =
-    let w = c.args.word.now in
-    not_added _ (paired w) _ _ _ _ _ (vec_capacity c.make_room.new.out) c.in-Err.fault (plain_whole w c.if-word-ne0.false (omega arith))
-    (length_paired w) c.args.out.now.ok.0 c.make_room.ensures.same c.in-Err.ensures.cases

@@ -1,7 +1,7 @@
-use Rattle.std.proofs.Common.{◌≡◌, ◌+◌, ◌-◌, ◌*◌, ◌/◌, ◌≤◌, ◌++◌, length, drop, vec_items, vec_len, vec_capacity}
-use Rattle.script.specs.Spelling.{paired}
+use Rattle.std.proofs.Common.{◌≡◌, ◌+◌, ◌-◌, ◌≤◌, ◌++◌, map, length, drop, vec_items, vec_len, vec_capacity}
+use Rattle.script.proofs.Spelt.{pair_of}
 use Rattle.script.proofs.bytes.push_pairs.Given as goal
 
-abbrev pub invariant-loop-i : goal.invariant-loop-i
-invariant-loop-i l = (vec_items l.out ++ paired (drop (2 * l.i) l.digits) ≡ vec_items l.initial.out ++ paired l.digits)
-    × (vec_len l.out + (length l.digits / 2 - l.i) ≤ vec_capacity l.out)
+abbrev pub invariant-loop-high : goal.invariant-loop-high
+invariant-loop-high l = (vec_items l.out ++ map pair_of (drop l.high-index l.pairs) ≡ vec_items l.initial.out ++ map pair_of l.pairs)
+    × (vec_len l.out + (length l.pairs - l.high-index) ≤ vec_capacity l.out)

@@ -1,19 +1,17 @@
-use Rattle.std.proofs.Common.{◌++◌, vec_items, sym, ap, ◌∙◌, append-nil, true-eqb}
-use Rattle.std.proofs.lemmas.List.{nil_from_length}
-use Rattle.std.proofs.lemmas.Result.{err_from_is_err_and}
-use Rattle.script.specs.Showing.{shown_runs}
-use Rattle.script.proofs.Writing.{extends_on}
+use Rattle.std.proofs.Common.{eqb, length, get_or, rules}
+use Rattle.std.specs.List.{IsChunkByPrefix}
+use Rattle.std.proofs.lemmas.List.Sorted.{answers_always}
+use Rattle.script.specs.Showing.{shown_run}
+use Rattle.script.proofs.Writing.{extends_on, run_written}
 use Rattle.script.proofs.show.push_runs.Goals as goal
 
-pub returns-in_err-rest : goal.returns-in_err-rest
-returns-in_err-rest c =
-    let p = err_from_is_err_and c.from_residual.result c.from_residual.ensures.1 in
-    rw p.1 (extends_on _ _ _ c.loop-rest.invariant.1 c.push_first_run.ensures.extends)
-
-pub loop-rest-preserved : goal.loop-rest-preserved
-loop-rest-preserved c = (c.in_ok-rest.ensures.same ∙ c.loop-rest.invariant.0, extends_on _ _ _ c.loop-rest.invariant.1 c.push_first_run.ensures.extends)
-
-pub returns : goal.returns
-returns c =
-    let out = vec_items c.loop-rest.out in
-    sym (append-nil out) ∙ ap (λ l. out ++ shown_runs l) (sym (nil_from_length c.loop-rest.rest.now (true-eqb _ 0 c.loop-rest-test.ensures))) ∙ c.loop-rest.invariant.0
+pub loop-run-preserved : goal.loop-run-preserved
+loop-run-preserved c =
+    let left = c.loop-run.run-iterator.rest.now in
+    let run = c.in-Some.run'.now in
+    let parts = c.in-Some.ensures.steps in
+    let chunk : IsChunkByPrefix eqb left (length run) = (parts.2 eqb (answers_always _ _ _ (λ f a r g h. search rules))).1 in
+    record {
+      left = run_written left run _ c.loop-run.between.now _ _ _ _ parts.0 parts.1 chunk c.loop-run.invariant.left c.in_ok-extend_from_slice.ensures.items c.in_ok-push_shown_run.ensures;
+      extends = extends_on _ _ _ (extends_on _ _ _ c.loop-run.invariant.extends (c.loop-run.between.now, c.in_ok-extend_from_slice.ensures.items)) (shown_run (length run, get_or run 0 0), c.in_ok-push_shown_run.ensures);
+    }

@@ -1,9 +1,10 @@
-use Rattle.std.proofs.Common.{◌≡◌, ◌++◌, length, vec_items}
+use Rattle.std.proofs.Common.{◌≡◌, ◌++◌, vec_items}
 use Rattle.script.specs.Showing.{shown_runs, Extends}
+use Rattle.script.proofs.Runs.{rest_shown}
 use Rattle.script.proofs.show.push_runs.Given as goal
 
-abbrev pub invariant-loop-rest : goal.invariant-loop-rest
-invariant-loop-rest l = (vec_items l.out ++ shown_runs l.rest ≡ vec_items l.initial.out ++ shown_runs l.bytes) × Extends (vec_items l.initial.out) (vec_items l.out)
-
-abbrev pub decreases-loop-rest : goal.decreases-loop-rest
-decreases-loop-rest l = length l.rest
+abbrev pub invariant-loop-run : goal.invariant-loop-run
+invariant-loop-run l = record {
+  left : vec_items l.out ++ rest_shown l.between l.run-iterator.rest.now ≡ vec_items l.initial.out ++ shown_runs l.bytes;
+  extends : Extends (vec_items l.initial.out) (vec_items l.out);
+}
