@@ -14,12 +14,12 @@ pub struct Tally {
 }
 
 impl Tally {
-    pub fn begin(&mut self) {
+    pub(crate) fn begin(&mut self) {
         self.trials = self.trials.saturating_add(1);
     }
 
     // Counts an answer: accepted, lost, failed at its drive, or anything else, which would be wrong.
-    pub fn count(&mut self, answer: Result<(), GroupFault>) {
+    pub(crate) fn count(&mut self, answer: Result<(), GroupFault>) {
         let count = match answer {
             Ok(()) => &mut self.accepted,
             Err(GroupFault::Lost { .. }) => &mut self.lost,
@@ -34,7 +34,7 @@ impl Tally {
         *count = count.saturating_add(1);
     }
 
-    pub fn compare(&mut self, same: bool) {
+    pub(crate) fn compare(&mut self, same: bool) {
         let count = if same {
             &mut self.right
         } else {

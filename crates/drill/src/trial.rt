@@ -78,7 +78,7 @@ impl<'e, 'm, M: Method> Trial<'e, 'm, M> {
     }
 
     // The drive dies while the group is filled.
-    pub fn fill(&mut self) {
+    pub(crate) fn fill(&mut self) {
         self.condemn();
         if self.fill_group().is_ok() {
             for e in self.extents {
@@ -97,7 +97,7 @@ impl<'e, 'm, M: Method> Trial<'e, 'm, M> {
     }
 
     // The group is filled and all of it read and written; the drive dies while all is written again and read.
-    pub fn blocks(&mut self) {
+    pub(crate) fn blocks(&mut self) {
         let _ = self.fill_group();
         self.read_all();
         self.write_all(1);
@@ -108,7 +108,7 @@ impl<'e, 'm, M: Method> Trial<'e, 'm, M> {
 
     // Drive 1 is lost and its member moved to the spare drive behind the members; row 0 is rebuilt while the drive dies.
     // What goes before isn't counted.
-    pub fn rebuild(&mut self) {
+    pub(crate) fn rebuild(&mut self) {
         let before = self.tally;
         let _ = self.fill_group();
         self.write_all(1);

@@ -74,7 +74,7 @@ impl<R: BufRead, W: Write> Console<R, W> {
     fn start(&mut self, drives: BusDrives) -> Result<Option<Memory>, AllocError>
         ensures { Starts drives self.old.number self.new.malformed self.old.out.items self.new.out.items result }
     {
-        match Memory::new(self.heap, drives) {
+        match Memory::for_drives(self.heap, drives) {
             Ok(memory) => {
                 self.out.extend_from_slice(b"ok")?;
                 Ok(Some(memory))

@@ -105,7 +105,7 @@ pub struct Memory {
 
 impl Memory {
     // Memory for new drives, where they fit a bus.
-    pub fn new(heap: Global, drives: BusDrives) -> Result<Memory, Unmade>
+    pub fn for_drives(heap: Global, drives: BusDrives) -> Result<Memory, Unmade>
         ensures { Made drives result }
     {
         fit(drives)?;

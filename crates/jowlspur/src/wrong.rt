@@ -36,7 +36,7 @@ impl From<AllocError> for Wrong {
     ghost from_gives = { λ _ wrong. wrong ≡ NoMemory };
 
     fn from(_: AllocError) -> Wrong {
-        Wrong::NoMemory
+        Self::NoMemory
     }
 }
 

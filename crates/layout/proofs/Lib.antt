@@ -2,3 +2,4 @@ pub mod Overlaps
 pub mod PlaceLaws
 pub mod Strips
 pub mod Found
+pub mod Loops

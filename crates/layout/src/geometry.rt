@@ -57,7 +57,8 @@ impl Geometry {
     pub fn check<M: Method>(members: usize, depth: usize, rows: usize) -> Result<(), Refusal>
         ensures { Answered (Fits M.Method members depth rows) (λ _. Unit {0}) OutOfRule result }
     {
-        if !members_fit::<M>(members) || !(1..=MOST_DEPTH).contains(&depth) || rows == 0 {
+        let members_fit = (M::LEAST..=MOST_MEMBERS).contains(&members);
+        if !members_fit || !(1..=MOST_DEPTH).contains(&depth) || rows == 0 {
             return Err(Refusal::OutOfRule);
         }
         let unit = depth * M::cycle_of(members);
