@@ -38,6 +38,8 @@ impl GroupSlot {
 }
 
 impl Array {
+    // This and the next are two functions, since each promises the checks of its own table.
+
     // The volume set of this number.
     pub(crate) fn volume(&self, v: usize) -> Result<&Volume, Refused>
         ensures { Asked (size_checks (config self.now) v) (λ x. volume_view x.now ≡ volume_at (config self.now) v) result }

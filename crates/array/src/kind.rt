@@ -13,7 +13,8 @@ use layout::refusal::Refusal;
 use layout::unprotected::Unprotected;
 
 // Five functions of a group have one arm for each method. A trait with a method that is generic in the method of redundancy
-// would be no plainer: it wants a struct and an impl for each of the five, whose clauses are then members of the trait.
+// would be no plainer: it wants a struct and an impl for each of the five, whose clauses are then members of the trait. A
+// macro for the arms would save lines, and hide which function is called.
 
 /// How the check blocks of a group come from its user blocks.
 #[derive(Clone, Copy, PartialEq, Eq, Debug)]
@@ -26,7 +27,7 @@ pub enum MethodKind {
     Xor,
 }
 
-/// A code of the standard's table, or of none, whose method is not supported.
+/// A code that is no supported method's.
 #[derive(Clone, Copy, PartialEq, Eq, Debug)]
 pub struct UnknownMethod(pub usize);
 

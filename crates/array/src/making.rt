@@ -1,9 +1,9 @@
 //! Making a group.
-ghost use Rattle.std.specs.Prelude.{◌≡◌, ℕ, ◌<◌, length, IsTrue, ◌↔◌, [], MatchOption};
-ghost use Rattle.layout.specs.Extents.{Overlap, Sound};
+ghost use Rattle.std.specs.Prelude.{◌≡◌, ◌<◌, IsTrue, ◌↔◌, [], MatchOption};
+ghost use Rattle.layout.specs.Extents.{Sound};
 ghost use Rattle.array.specs.Arrays.{config};
 ghost use Rattle.array.specs.Blaming.{broken_by};
-ghost use Rattle.array.specs.Configuration.{Unassigned, configuration, extent_at, group_view};
+ghost use Rattle.array.specs.Configuration.{Unassigned, configuration};
 ghost use Rattle.array.specs.Checks.{EachExtent, DifferentDrives, GroupFields};
 ghost use Rattle.array.specs.Calls.{MakesGroup};
 ghost use Rattle.array.specs.Planning.{Assigned, Built, Lying, Plans, Shared, FillsGroup, slot_view};
@@ -120,7 +120,7 @@ impl Array {
     }
 
     // The code stays a number, and the extents plain rows: what is wrong with them is refused here, in its turn among the
-    // checks. The four are no struct, since only the plan takes them too.
+    // checks. The four are no struct: they are the fields of a call, and each check asks two of them.
 
     /// Makes group `g` by the method with this code, at this depth, on these extents, and sets all their blocks to zeros.
     /// Where it is refused nothing is configured; where a drive broke, blocks of the extents may be zeros.

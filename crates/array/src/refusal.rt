@@ -41,6 +41,9 @@ pub struct Sense {
     pub qualifier: u8,
 }
 
+// Two variants and no option of a block of a volume set: faults are enums from the bus up, and the variant says how far this one
+// came. The fields are named one by one, as a refusal is printed.
+
 /// The drive that a refusal names, with all that is known of it.
 #[derive(Clone, Copy, PartialEq, Eq, Debug)]
 pub enum Fault {
@@ -69,7 +72,7 @@ pub struct Refused {
 }
 
 impl Refusal {
-    // The variants have no numbers of their own: two of them share one.
+    // No From: `u8::from(refusal)` would not say which number; nor has the enum numbers of its own, since two of them share one.
 
     /// The number of the check.
     pub fn number(self) -> u8

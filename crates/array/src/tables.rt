@@ -12,7 +12,8 @@ pub const MOST_GROUPS: usize = 8;
 /// The most volume sets of an array.
 pub const MOST_VOLUMES: usize = 16;
 
-// Not one struct for both tables: a generic struct has no array of a type parameter. `scan::entry` looks a number up in either.
+// Not one generic struct for both tables: the check does not prove a derived Clone of a struct with an array of its type
+// parameter. `scan::entry` looks a number up in either.
 
 /// What is configured: up to 8 groups and 16 volume sets. What holds of the tables whatever the bus stands in the type.
 #[derive(Clone, Copy)]

@@ -41,6 +41,7 @@ fn with_control(volume: Option<Volume>, on: bool) -> Option<Volume>
 
 impl Array {
     /// An array in which nothing is configured.
+    #[tactic(auto, using(crate::proofs::Keeping::nothing_fields))]
     pub fn new() -> Array
         ensures { config result ≡ nothing }
     {

@@ -3,7 +3,8 @@ ghost use Rattle.bus.specs.Numbers.{number_of, address_of, drive_of, block_of, r
 
 use crate::address::BlockAddress;
 
-// Why a request was refused, with the block that it named.
+// Why a request was refused, with the block that it named. An enum and no struct of a cause and a block, as all faults up from here
+// are enums that `?` hands on.
 #[derive(Clone, Copy, PartialEq, Eq, Debug)]
 pub enum BusFault {
     // There is no such drive.
@@ -17,6 +18,8 @@ pub enum BusFault {
 }
 
 impl BusFault {
+    // No From: `u8::from(fault)` would not say which number that is.
+
     // The number of the refusal.
     pub fn number(self) -> u8
         ensures { result ≡ number_of self }

@@ -1,5 +1,5 @@
 -- Requests to a bus whose drives break when told to, from those to the bus below.
-use Rattle.std.proofs.Common.{◌≡◌, ℕ, ◌-◌, ◌<◌, ◌≤◌, Bool, true, false, ◌||◌, ◌≢◌, ◌⊎◌, List, length, set, replicate, Some, None, Ok, Err, Option, Result, sym, refl, ap, ◌∙◌, subst, inl, inr, ⊎_elim, arith}
+use Rattle.std.proofs.Common.{◌≡◌, ℕ, ◌-◌, ◌<◌, Bool, true, false, ◌||◌, ◌≢◌, ◌⊎◌, List, length, set, replicate, Some, None, Ok, Err, Option, Result, sym, refl, ap, ◌∙◌, subst, inl, inr, ⊎_elim, arith}
 use Rattle.std.proofs.lemmas.List.{get_or-set_same, get_or-set_other, length-set, ext_get_or, set-get_or, get_or_past, get_or-replicate}
 use Rattle.std.proofs.lemmas.Bool.{cases_eq, cases_lt, or_right, or_from, or_cases, or_parts, both_ways, eqb-true, eqb-false, eq-eqb, ne_eqb, cond-true, cond-false}
 use Rattle.bus.specs.declared.fault.BusFault.{BusFault}
@@ -8,7 +8,7 @@ use Rattle.bus.specs.Numbers.{broken_at}
 use Rattle.bus.specs.Drives.{Drive, at, stored, broke, absent}
 use Rattle.bus.specs.Requests.{Placed, RefusedBy, Faults, Reads, Writes}
 use Rattle.bus.proofs.Changing.{at_set, at_other, set_by, broke_same}
-use Rattle.buses.specs.Breaking.{gone, left_of, fewer, mark, marked, ToldBy, Told, Breaks, Counts, FailsAsTold, Reached, Missed, count_marked, at_marked, size_marked, block_marked, broken_marked}
+use Rattle.buses.specs.Breaking.{gone, left_of, fewer, mark, marked, ToldBy, Told, Breaks, FailsAsTold, Reached, Missed, count_marked, at_marked, size_marked, block_marked, broken_marked}
 
 -- only which drives have nothing left matters
 pub marked_as : (s : List Drive) (ls ms : List (Option ℕ)) → ((k : ℕ) → gone (left_of ms k) ≡ gone (left_of ls k)) → marked s ms ≡ marked s ls
@@ -135,13 +135,6 @@ module _ (s : List Drive) (ls ms : List (Option ℕ)) (d b len : ℕ) where
       (cases_eq k d))
   through t (inr m) = ap (marked t) (sym m.same)
 
-  pub counts_stopped : (e : BusFault) → HeldBack e → Counts s s ls ms d b len
-  counts_stopped e h = record { reached = λ p. h.0.counted; missed = λ n. absurd (n h.0.placed); untried = λ p e. refl }
-
-  pub counts_through : (t : List Drive) → LetThrough → Counts s t ls ms d b len
-  counts_through t (inl r) = record { reached = λ p. r.counted; missed = λ n. absurd (n r.placed); untried = λ p e. absurd (both_ways (gone (left_of ms d)) r.flag e) }
-  counts_through t (inr m) = record { reached = λ p. absurd (m.misplaced p); missed = λ n. m.same; untried = λ p e. absurd (m.misplaced p) }
-
   fails_by : (t : List Drive) → ((k : ℕ) → gone (left_of ls k) ≡ false → gone (left_of ms k) ≡ true → (k ≡ d) × (left_of ls k ≡ Some 1)) → FailsAsTold s t ls ms d
   fails_by t why k f =
       let was = or_parts (at s k).broken (gone (left_of ls k)) (sym (broken_marked s ls k) ∙ f.before) in
@@ -216,15 +209,6 @@ module _ (s : List Drive) (ls : List (Option ℕ)) (d n : ℕ) (h : d < length s
     at_once = λ z. broke_same (marked s ls) d (broken_marked s ls d ∙ or_right (at s d).broken (gone (left_of ls d)) e);
     later = λ z. refl;
   }
-
--- beyond the drives below nothing was told that counts
-pub beyond_marked : (s : List Drive) (ls : List (Option ℕ)) (d : ℕ) → length s ≤ d → (at (marked s ls) d).broken ≡ (at s d).broken
-beyond_marked s ls d h =
-    ap (λ v. v.broken) (get_or_past (marked s ls) d absent (omega (arith, count_marked s ls))) ∙ sym (ap (λ v. v.broken) (get_or_past s d absent h))
-
--- a request that reached its drive, by whether the drive has anything left then
-pub reached_by : (s : List Drive) (ls : List (Option ℕ)) (d b len : ℕ) (x : Option ℕ) (f : Bool) → Placed s d b len → d < length ls → x ≡ fewer (left_of ls d) → f ≡ gone x → Reached s ls (set ls d x) d b len f
-reached_by s ls d b len x f p i e g = record { placed = p; inside = i; counted = ap (set ls d) e; flag = ap gone (get_or-set_same ls d x None i) ∙ sym g }
 
 -- telling it to break at once, by the drives alone
 pub breaks_told : {U : Type 0} (s t : List Drive) (ls ms : List (Option ℕ)) (d : ℕ) (r : Result U BusFault) → t ≡ s → Told s ls ms d 0 r → Breaks (marked s ls) (marked t ms) d r

@@ -1,4 +1,4 @@
-ghost use Rattle.std.specs.Prelude.{◌≡◌, Bool, length, replicate, None, Ok};
+ghost use Rattle.std.specs.Prelude.{◌≡◌, length, replicate, None, Ok};
 ghost use Rattle.bus.specs.Requests.{Reads, Writes};
 ghost use Rattle.buses.specs.Breaking.{gone, fewer, left_of, marked, sound_marked, Told, Breaks, Counts, FailsAsTold, Stops};
 
@@ -75,6 +75,7 @@ impl<B: Bus> BreakingBus<B> {
     }
 
     // Breaks the drive `d`.
+    #[tactic(auto, using(crate::proofs::Marking::breaks_told))]
     pub fn break_now(&mut self, d: usize) -> Result<(), BusFault>
         ensures breaks { Breaks (marked (B.Bus.drives self.old.below) self.old.left) (marked (B.Bus.drives self.new.below) self.new.left) d result }
         ensures below { self.new.below ≡ self.old.below }

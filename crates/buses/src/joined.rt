@@ -13,7 +13,7 @@ pub struct JoinedBus<A: Bus, B: Bus> {
     second: B,
 }
 
-// Which of the two buses a drive is of.
+// Which of the two buses a drive is of; no Option of a number, since the first bus is no absence.
 #[derive(Clone, Copy, PartialEq, Eq, Debug)]
 enum Side {
     // The first, with the same number.

@@ -1,4 +1,4 @@
-ghost use Rattle.std.specs.Prelude.{◌≡◌, ℕ, ◌+◌, ◌*◌, ◌^◌, ◌<◌, ◌≤◌, length};
+ghost use Rattle.std.specs.Prelude.{◌≡◌, ◌+◌, ◌*◌, ◌^◌, ◌<◌, ◌≤◌, length};
 ghost use Rattle.bus.specs.Requests.{Reads, Writes};
 ghost use Rattle.buses.specs.Fitting.{FitsMemory, fitting, sound_fitting};
 ghost use Rattle.buses.specs.Memory.{held, memory_drives, Locates, Refuses, Unbroken, Overwrites};
@@ -26,6 +26,7 @@ fn start_of(capacity: usize, at: BlockAddress) -> usize
 }
 
 // Whether a request with `len` bytes reaches one of `drives`, or what is wrong with it, in the order in which it is asked.
+// `at` and `len` are no struct: a caller has the buffer, and its length is asked here alone.
 fn reach(drives: Drives, at: BlockAddress, len: usize) -> Result<(), BusFault>
     ensures { Refuses drives.number drives.capacity at.drive at.block len result }
 {

@@ -13,14 +13,14 @@ pub enum Misfit {
 }
 
 impl Misfit {
+    // No From: `u8::from(misfit)` would not say which number that is.
+
     // The number of the refusal.
     pub fn number(self) -> u8
         ensures { result ≡ misfit_number self }
     {
         match self {
-            Misfit::Count => 3,
-            Misfit::Capacity => 3,
-            Misfit::Bytes => 3,
+            Misfit::Count | Misfit::Capacity | Misfit::Bytes => 3,
         }
     }
 }

@@ -4,6 +4,8 @@ use array::volume::Run;
 use bus::BlockAddress;
 use layout::extent::ExtentRow;
 
+// Volume set and block are two fields, and no `VolumeBlock`: the law's definitions take a call apart by its numbers.
+
 /// One call. The buffer of a call that has one stands beside it.
 #[derive(Clone, Copy, PartialEq, Eq, Debug)]
 pub enum Call<'a> {

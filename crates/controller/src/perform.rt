@@ -1,6 +1,4 @@
 //! One call on an array in use.
-ghost use Rattle.std.specs.Prelude.{◌≡◌, ℕ, List};
-ghost use Rattle.bus.specs.Drives.{Drive};
 ghost use Rattle.controller.specs.Law.{Step, Goes, entry};
 
 use crate::calls::{Answer, Call, Value};

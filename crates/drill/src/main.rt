@@ -63,6 +63,7 @@ impl Shape {
     }
 }
 
+// The console has this product too; as a method of `Drives` it would have to promise what it is where it is too large.
 fn bytes_of(drives: Drives) -> usize {
     drives
         .number

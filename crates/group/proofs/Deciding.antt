@@ -1,5 +1,5 @@
 -- From how a write was settled to what its contract says.
-use Rattle.std.proofs.Common.{◌≡◌, ℕ, ◌<◌, ◌≤◌, List, [], length, get_or, set, Ok, Err, Result, ◌∙◌, inr}
+use Rattle.std.proofs.Common.{◌≡◌, ℕ, ◌<◌, ◌≤◌, List, [], length, get_or, set, Ok, Err, Result, ◌∙◌}
 use Rattle.bus.specs.Drives.{Drive}
 use Rattle.layout.specs.Blocks.{Blocks}
 use Rattle.layout.specs.Methods.{Sound}
@@ -9,13 +9,8 @@ use Rattle.group.specs.declared.fault.RowFault.{RowFault}
 use Rattle.group.specs.declared.fault.RowFault.TheVariants.{Lost, Failed}
 use Rattle.group.specs.Group.{member, RowLost, RowHolds, Shape, Frame, Its, ItsBlock}
 use Rattle.group.specs.Steps.{Stores}
-use Rattle.group.specs.Requests.{Settled, Decided, Changes, Rebuilds}
+use Rattle.group.specs.Requests.{Settled, Changes, Rebuilds}
 use Rattle.group.proofs.Holding.{holds_lost, fine_behind}
-
-pub decides : {U : Type 0} (st : ℕ) (m n : List Drive) (r : ℕ) (gs : List Member) (i : ℕ) (x : Result U RowFault) → (RowLost st m r gs → ⊥) → Settled st n r gs i x → Decided st m n r gs i x
-decides st m n r gs i (Ok u) fine h = (fine, h)
-decides st m n r gs i (Err (Lost j q)) fine h = (h.0, inr (fine, h.1))
-decides st m n r gs i (Err (Failed f j q)) fine h = absurd h
 
 module _ {X : Type 0} (k : Ghosts X) (t r : ℕ) (gs : List Member) (s : Sound k.LEAST k.width k.cycle k.home k.check k.row k.tolerance)
     (few : k.LEAST ≤ length gs) (many : length gs ≤ 8) (p : ℕ) (here : p < k.width (length gs)) (new : List ℕ) (m n : List Drive)

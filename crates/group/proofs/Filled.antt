@@ -10,18 +10,12 @@ use Rattle.layout.specs.Extents.{Sound, Covers}
 use Rattle.group.specs.declared.fill.Stop.{Stop}
 use Rattle.group.specs.Group.{Frame, NoBlock}
 use Rattle.group.specs.Filling.{extent, zeros, Zeroed, Stops, OneDrive, FillsOne, SomeDrive, SomeBlock, Stopped}
-use Rattle.group.proofs.Frames.{frame_refl, frame_trans, frame_wider, broke_frame, broke_there, stored_frame, stored_there, stored_broken}
+use Rattle.group.proofs.Frames.{frame_trans, frame_wider, broke_frame, broke_there, stored_frame, stored_there, stored_broken}
 
 -- the first k blocks of the extent e are filled, and nothing else changed
 pub record FilledTo (m n : List Drive) (e : ExtentRow) (k : ℕ) : Type 0 where
   pub frame : Frame m n (OneDrive e) (Covers e)
   pub zeroed : Zeroed n e k
-
-pub filled_none : (m : List Drive) (e : ExtentRow) → FilledTo m m e 0
-filled_none m e = record {
-  frame = frame_refl m (OneDrive e) (Covers e);
-  zeroed = record { blocks = λ r h. absurd (omega arith); works = λ h. absurd (omega arith) };
-}
 
 module _ (m s n : List Drive) (e : ExtentRow) (k : ℕ) (inside : k < e.count) (before : FilledTo m s e k) where
   -- one more block is written
@@ -83,9 +77,6 @@ module _ (m s n : List Drive) (e : ExtentRow) (k : ℕ) (inside : k < e.count) (
 pub record FilledMembers (m n : List Drive) (es : List ExtentRow) (i : ℕ) : Type 0 where
   pub frame : Frame m n (SomeDrive es) (SomeBlock es)
   pub zeroed : (j : ℕ) → j < i → Zeroed n (extent es j) (extent es j).count
-
-pub no_members_filled : (m : List Drive) (es : List ExtentRow) → FilledMembers m m es 0
-no_members_filled m es = record { frame = frame_refl m (SomeDrive es) (SomeBlock es); zeroed = λ j h. absurd (omega arith) }
 
 covers_cases : (e : ExtentRow) (d b : ℕ) → Covers e d b ⊎ (Covers e d b → ⊥)
 covers_cases e d b =

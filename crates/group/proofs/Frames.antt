@@ -4,7 +4,6 @@ use Rattle.std.proofs.lemmas.List.{get_or-set_same, get_or-set_other, length-set
 use Rattle.std.proofs.lemmas.Bool.{cases_eq, cases_Bool, both_ways, or_cases, or_left, or_right}
 use Rattle.bus.specs.declared.fault.BusFault.{BusFault}
 use Rattle.bus.specs.declared.fault.BusFault.TheVariants.{NoDrive, Length, Range, Broken}
-use Rattle.bus.specs.Numbers.{broken_at}
 use Rattle.bus.specs.Drives.{Drive, at, size, block, stored, broke, absent}
 use Rattle.bus.specs.Requests.{Placed, Faults, Writes}
 use Rattle.bus.proofs.Changing.{there_by_size}
@@ -13,9 +12,7 @@ use Rattle.layout.specs.Methods.{Sound}
 use Rattle.layout.specs.declared.method.Method.{Ghosts}
 use Rattle.group.specs.declared.member.Member.{Member}
 use Rattle.group.specs.Group.{missing, missings, held, Frame, Its, ItsBlock, NoBlock}
-use Rattle.group.specs.declared.fault.RowFault.TheVariants.{Failed}
-use Rattle.group.specs.Seen.{seen}
-use Rattle.group.specs.Steps.{Sent, Stores}
+use Rattle.group.specs.Steps.{Sent}
 
 -- one drive replaced, seen from each drive
 each_set : (m : List Drive) (d : ℕ) (v : Drive) (P : Drive → Drive → Type 0) → d < length m → P v (at m d) → ((w : Drive) → P w w) → (e : ℕ) → P (at (set m d v) e) (at m e)
@@ -24,10 +21,6 @@ each_set m d v P h here same e =
     (λ (q : e ≡ d). subst (λ (k : ℕ). P (at (set m d v) k) (at m k)) (sym q) (subst (λ (w : Drive). P w (at m d)) (sym (get_or-set_same m d v absent h)) here))
     (λ ne. subst (λ (w : Drive). P w (at m e)) (sym (get_or-set_other m d e v absent ne)) (same (at m e)))
     (cases_eq e d)
-
-module _ (m : List Drive) (D : ℕ → Type 0) (P : ℕ → ℕ → Type 0) where
-  pub frame_refl : Frame m m D P
-  frame_refl = record { count = refl; sizes = λ d. refl; stays = λ d h. h; others = λ d ne. refl; blocks = λ d b ne. refl }
 
 pub frame_trans : (m n o : List Drive) (D : ℕ → Type 0) (P : ℕ → ℕ → Type 0) → Frame m n D P → Frame n o D P → Frame m o D P
 frame_trans m n o D P f k = record {
@@ -91,9 +84,6 @@ module _ (m n : List Drive) (r : ℕ) (g : Member) where
   pub missing_broken : (at n g.drive).broken ≡ true → missing n r g ≡ true
   missing_broken e = or_left (at n g.drive).broken (leb g.mark r) e
 
-  pub missing_mark : g.mark ≤ r → leb g.mark r ≡ true → missing n r g ≡ true
-  missing_mark h e = or_right (at n g.drive).broken (leb g.mark r) e
-
   pub missing_stays : ((at m g.drive).broken ≡ true → (at n g.drive).broken ≡ true) → missing m r g ≡ true → missing n r g ≡ true
   missing_stays f e =
       ⊎_elim (λ b. missing_broken (f b)) (λ k. or_right (at n g.drive).broken (leb g.mark r) k)
@@ -137,28 +127,6 @@ missing_count_more m n r (g ∷ gs) f =
     ⊎_elim (λ (k : missing n r g ≡ true). omega (arith, ap (λ (b : Bool). missing_count (b ∷ missings n r gs)) k)) (λ (k : missing n r g ≡ false). omega (arith, ap (λ (b : Bool). missing_count (b ∷ missings n r gs)) k)) (cases_Bool (missing n r g)) in
     omega arith)
     (cases_Bool (missing m r g))
-
-module _ (m n : List Drive) (r : ℕ) (g : Member) (i : ℕ) where
-  pub store_failed : (U : Type 0) (xs : List ℕ) (len : ℕ) (e : BusFault) → Placed m g.drive (g.start + r) len → Faults m n g.drive (g.start + r) len e → Stores {U = U} m n r g i xs (Err (Failed e i r))
-  store_failed U xs len (NoDrive a) p q = absurd (omega (arith, p.exists, q.1.beyond))
-  store_failed U xs len (Length a) p q = absurd (q.1.other p.whole)
-  store_failed U xs len (Range a) p q = absurd (omega (arith, p.within, q.1.beyond))
-  store_failed U xs len (Broken a) p q = (
-    subst (λ (o : List Drive). Frame m o (Its g) (ItsBlock r g)) (sym q.1.broken)
-        (frame_wider m (broke m g.drive) (Its g) (Its g) NoBlock (ItsBlock r g) (λ d x. x) (λ d c x. absurd x) (broke_frame m g.drive p.exists)),
-    ap (λ (d : ℕ). broken_at d a.block) q.0.drive ∙ ap (broken_at g.drive) q.0.place,
-    refl,
-    refl,
-    subst (λ (o : List Drive). (at o g.drive).broken ≡ true) (sym q.1.broken) (broke_there m g.drive p.exists),
-  )
-
-  pub stores_by : {U : Type 0} (xs : List ℕ) (x : Result U BusFault) → g.start + r < size m g.drive → length xs ≡ 512 → Writes m n g.drive (g.start + r) xs x → Stores m n r g i xs (seen i r x)
-  stores_by xs (Ok u) h w q = (
-    subst (λ (o : List Drive). Frame m o (Its g) (ItsBlock r g)) (sym q.stored) (stored_frame m g.drive q.placed.exists (g.start + r) xs),
-    subst (λ (o : List Drive). held o r g ≡ xs) (sym q.stored) (stored_there m g.drive q.placed.exists (g.start + r) xs h),
-    ap (λ (o : List Drive). (at o g.drive).broken) q.stored ∙ stored_broken m g.drive q.placed.exists (g.start + r) xs g.drive ∙ q.working,
-  )
-  stores_by {U} xs (Err e) h w q = store_failed U xs (length xs) e (placed_by m n r g h (length xs) w) q
 
 -- a group has a member
 pub one_member : {X : Type 0} (k : Ghosts X) → Sound k.LEAST k.width k.cycle k.home k.check k.row k.tolerance → {n : ℕ} → k.LEAST ≤ n → 1 ≤ n

@@ -8,7 +8,7 @@ use Rattle.group.specs.declared.member.Member.{Member}
 use Rattle.group.specs.Group.{nobody, member, missing, missings, held, Shape, Frame, Ours, NoBlock, Its}
 use Rattle.group.specs.Steps.{Fetched}
 use Rattle.group.specs.Sweeps.{Gathered}
-use Rattle.group.proofs.Frames.{frame_refl, frame_trans, frame_wider, missing_stays}
+use Rattle.group.proofs.Frames.{frame_trans, frame_wider, missing_stays}
 use Rattle.group.proofs.Counts.{missing_count_within, missing_count_set}
 
 -- the members below i were gone over, and s is the bus now
@@ -23,14 +23,6 @@ module _ (tolerance : ℕ) (m : List Drive) (r : ℕ) (gs : List Member) where
   gathers_as i s z o p bs cs es eo eb h =
       subst (λ (x : List Drive). Gathers tolerance m r gs i x p cs) (sym es)
       (subst (λ (x : List Bool). Gathers tolerance m r gs i s x cs) (sym eo) (subst (λ (x : List (List ℕ)). Gathers tolerance m r gs i s o x) (sym eb) h))
-
-  pub gathers_none : (o : List Bool) (bs : List (List ℕ)) → ((k : ℕ) → get_or o k true ≡ true) → Gathers tolerance m r gs 0 m o bs
-  gathers_none o bs all = record {
-    frame = frame_refl m (Ours gs) NoBlock;
-    known = λ k h e. absurd (both_ways (get_or o k true) e (all k));
-    tried = λ l k h e. absurd (omega arith);
-    rest = λ k h. all k;
-  }
 
   pub gathers_skip : (i : ℕ) (s : List Drive) (o : List Bool) (bs : List (List ℕ)) → missing_count o ≤ tolerance → Gathers tolerance m r gs i s o bs → Gathers tolerance m r gs (i + 1) s o bs
   gathers_skip i s o bs few a = record {

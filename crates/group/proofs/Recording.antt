@@ -1,8 +1,7 @@
 -- From what is told of a row to what a call on its group says.
 use Rattle.std.proofs.Common.{◌≡◌, ℕ, ◌+◌, ◌/◌, ◌<◌, List, ◌++◌, length, take, drop, set, Ok, Err, Result, sym, refl, ap, ◌∙◌, subst, inl, inr, ⊎_elim, arith}
 use Rattle.std.proofs.lemmas.List.{get_or-take, length-take-le}
-use Rattle.std.proofs.lemmas.Bool.{cases_order}
-use Rattle.bus.specs.Drives.{Drive, size}
+use Rattle.bus.specs.Drives.{Drive}
 use Rattle.layout.specs.Blocks.{Blocks}
 use Rattle.layout.specs.Methods.{Sound}
 use Rattle.layout.specs.declared.method.Method.{Ghosts}
@@ -10,11 +9,11 @@ use Rattle.layout.specs.declared.geometry.Place.{Place}
 use Rattle.group.specs.declared.record.Group.{Group}
 use Rattle.group.specs.declared.fault.RowFault.{RowFault}
 use Rattle.group.specs.declared.fault.RowFault.TheVariants.{Lost as LostAt, Failed as FailedAt}
-use Rattle.group.specs.Group.{nobody, member, missing, BlockLost, RowHolds, Shape}
+use Rattle.group.specs.Group.{nobody, member, missing, BlockLost, RowHolds}
 use Rattle.group.specs.Requests.{Blames, HomeFirst, RowRead, RowWrite, RowRebuild}
 use Rattle.group.specs.declared.member.Member.{Member}
 use Rattle.group.proofs.Answering.{mapped}
-use Rattle.group.specs.Record.{width_of, members_of, Lies, Ready, raised, Names, ReadOk, Reads, WriteOk, Writes, next_row, Rebuildable, Rebuilds}
+use Rattle.group.specs.Record.{width_of, members_of, Ready, raised, Names, ReadOk, Reads, WriteOk, Writes, next_row, Rebuildable, Rebuilds}
 
 module _ (g : Group) (eight : length g.members ≡ 8) where
   pub length_members : length (members_of g) ≡ width_of g
@@ -22,19 +21,6 @@ module _ (g : Group) (eight : length g.members ≡ 8) where
 
   pub member_is : (i : ℕ) → i < width_of g → member (members_of g) i ≡ member g.members i
   member_is i h = get_or-take (width_of g) g.members i nobody h
-
-  pub shape_of : (m : List Drive) (r : ℕ) → Lies m g r → Shape m r (members_of g)
-  shape_of m r lies = record {
-    apart = λ i j hi hj e.
-        let li : i < width_of g = omega (arith, length_members) in
-        let lj : j < width_of g = omega (arith, length_members) in
-        let d : (member g.members i).drive ≡ (member g.members j).drive =
-        ap (λ v. v.drive) (sym (member_is i li)) ∙ e ∙ ap (λ v. v.drive) (member_is j lj) in
-        ⊎_elim (λ q. q) (⊎_elim (λ lt. absurd (g.apart i j (lt, lj) d)) (λ lt. absurd (g.apart j i (lt, li) (sym d)))) (cases_order i j);
-    within = λ i h.
-        let l : i < width_of g = omega (arith, length_members) in
-        subst (λ v. v.start + r < size m v.drive) (sym (member_is i l)) (lies i l);
-  }
 
   -- what a row blames is of the group, and is named above it
   pub blames_named : (n : List Drive) (r j q : ℕ) → Blames n r (members_of g) j q → Names n g r g.number q j (member g.members j).drive ((member g.members j).start + q)

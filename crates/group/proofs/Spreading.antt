@@ -1,11 +1,11 @@
 -- Writing member after member.
-use Rattle.std.proofs.Common.{◌≡◌, ℕ, ◌+◌, ◌<◌, ◌≤◌, Bool, true, false, ◌≢◌, List, [], length, get_or, sym, refl, ap, ◌∙◌, subst, ⊎_elim, arith}
+use Rattle.std.proofs.Common.{◌≡◌, ℕ, ◌+◌, ◌<◌, ◌≤◌, Bool, true, false, ◌≢◌, List, [], length, get_or, sym, ap, ◌∙◌, subst, ⊎_elim, arith}
 use Rattle.std.proofs.lemmas.Bool.{cases_eq, both_ways}
 use Rattle.bus.specs.Drives.{Drive, size}
 use Rattle.group.specs.declared.member.Member.{Member}
 use Rattle.group.specs.Group.{member, missing, held, Shape, Frame, Ours, InRow, Its, ItsBlock}
 use Rattle.group.specs.Steps.{Sent}
-use Rattle.group.proofs.Frames.{frame_refl, frame_trans, frame_wider, missing_back}
+use Rattle.group.proofs.Frames.{frame_trans, frame_wider, missing_back}
 
 pub record Spreads (to : ℕ → Bool) (m : List Drive) (r : ℕ) (gs : List Member) (bs : List (List ℕ)) (i : ℕ) (s : List Drive) : Type 0 where
   pub frame : Frame m s (Ours gs) (InRow r gs)
@@ -13,13 +13,6 @@ pub record Spreads (to : ℕ → Bool) (m : List Drive) (r : ℕ) (gs : List Mem
   pub kept : (k : ℕ) → k < length gs → (to k ≡ true → i ≤ k) → held s r (member gs k) ≡ held m r (member gs k)
 
 module _ (to : ℕ → Bool) (m : List Drive) (r : ℕ) (gs : List Member) (bs : List (List ℕ)) where
-  pub spreads_none : Spreads to m r gs bs 0 m
-  spreads_none = record {
-    frame = frame_refl m (Ours gs) (InRow r gs);
-    written = λ k l lt. absurd (omega arith);
-    kept = λ k l f. refl;
-  }
-
   pub spreads_skip : (i : ℕ) (s : List Drive) → to i ≡ false → Spreads to m r gs bs i s → Spreads to m r gs bs (i + 1) s
   spreads_skip i s off a = record {
     frame = a.frame;

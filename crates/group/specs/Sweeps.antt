@@ -1,7 +1,8 @@
 -- What going over the members of a row does: m is the meaning of the bus before, and n after.
 use Rattle.std.specs.Prelude.{◌≡◌, ℕ, ◌<◌, ◌≤◌, Bool, true, false, ◌||◌, List, [], length, ◌==◌, slice_index_or}
 use Rattle.bus.specs.Drives.{Drive}
-use Rattle.layout.specs.Blocks.{missing_count}
+use Rattle.layout.specs.Blocks.{missing_count, Blocks, Agree}
+use Rattle.layout.specs.declared.method.Method.{Ghosts}
 use Rattle.group.specs.declared.member.Member.{Member}
 use Rattle.group.specs.Group.{member, missing, missings, held, RowLost, Frame, Ours, InRow, NoBlock}
 
@@ -21,3 +22,7 @@ pub record Spread (to : ℕ → Bool) (m n : List Drive) (r : ℕ) (gs : List Me
   pub frame : Frame m n (Ours gs) (InRow r gs)
   pub written : (i : ℕ) → i < length gs → to i ≡ true → missing n r (member gs i) ≡ false → held n r (member gs i) ≡ slice_index_or bs i []
   pub kept : (i : ℕ) → i < length gs → to i ≡ false → held n r (member gs i) ≡ held m r (member gs i)
+
+-- P holds of whatever user blocks bs are the row of, in strip t with n members, at the members that `unread` does not mark
+abbrev pub FromRow : {X : Type 0} → Ghosts X → ℕ → ℕ → List Bool → List (List ℕ) → (List (List ℕ) → Type 0) → Type 0
+FromRow k n t unread bs P = (us : List (List ℕ)) → Blocks (k.width n) us → Agree unread bs (k.row n t us) → P us

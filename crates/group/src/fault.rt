@@ -65,7 +65,7 @@ pub enum GroupFault {
 }
 
 impl GroupFault {
-    // Callers print and compare this number, so the enum has it by name.
+    // No From: `u8::from(fault)` would not say which number that is.
 
     /// The number of the refusal.
     pub fn number(self) -> u8

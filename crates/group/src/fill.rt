@@ -1,5 +1,5 @@
 //! The zero fill of a new group.
-ghost use Rattle.std.specs.Prelude.{◌≡◌, ℕ, ◌<◌, length, MatchBool};
+ghost use Rattle.std.specs.Prelude.{ℕ, ◌<◌, length, MatchBool};
 ghost use Rattle.layout.specs.Extents.{Sound};
 ghost use Rattle.group.specs.Filling.{extent, FillsOne, Fills};
 
@@ -27,6 +27,7 @@ fn fill_extent<B: Bus>(bus: &mut B, e: ExtentRow) -> Result<(), Stop>
     ensures { FillsOne (B.Bus.drives bus.old) (B.Bus.drives bus.new) e result }
 {
     let zeros = [0u8; BLOCK];
+    // Rows are numbers of drive blocks: no slice holds them.
     for row in 0..e.count {
         let at = BlockAddress {
             drive: e.drive,

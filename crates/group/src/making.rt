@@ -1,5 +1,5 @@
 //! Making a group.
-ghost use Rattle.std.specs.Prelude.{◌≡◌, ℕ, ◌+◌, ◌<◌, ◌≤◌, length, set, MatchBool, MatchOption, MatchResult, ◌≢◌};
+ghost use Rattle.std.specs.Prelude.{◌≡◌, ℕ, ◌<◌, length, set, MatchBool, MatchOption, MatchResult, ◌≢◌};
 ghost use Rattle.group.specs.Filling.{extent};
 ghost use Rattle.group.specs.Group.{member as memberOf};
 ghost use Rattle.group.specs.Making.{Fits, MadeTo, Movable, Unmovable};

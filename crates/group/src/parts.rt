@@ -1,6 +1,7 @@
 // What is in memory of a row.
-ghost use Rattle.std.specs.Prelude.{◌≡◌, ℕ, ◌<◌, ◌≤◌, true, false, MatchOption, List, [], length, take, slice_index_or, slice_set};
-ghost use Rattle.layout.specs.Blocks.{missing_count, Blocks, Agree};
+ghost use Rattle.std.specs.Prelude.{◌≡◌, ℕ, ◌<◌, ◌≤◌, true, false, MatchOption, [], length, take, slice_index_or, slice_set};
+ghost use Rattle.layout.specs.Blocks.{missing_count};
+ghost use Rattle.group.specs.Sweeps.{FromRow};
 
 use layout::block::{Block, count_missing};
 use layout::geometry::MOST_MEMBERS;
@@ -8,8 +9,8 @@ use layout::method::Method;
 use layout::row::replace_user;
 use std::marker::PhantomData;
 
-// No heap here: room for as many members as a group can have, of which `count` are there. The marks are no options of blocks,
-// since a method recovers a row of plain blocks.
+// No heap here: room for as many members as a group can have, of which `count` are there. The marks are no options of
+// blocks, since a method recovers a row of plain blocks.
 
 // The blocks of a row of `count` members, in a strip, and marks of the members that were not read.
 #[derive(Drop)]
@@ -92,7 +93,7 @@ impl<M: Method> Known<M> {
     // The block of member `m`.
     pub(crate) fn block(&self, m: usize) -> Block
         requires { m < self.now.parts.count }
-        ensures { (us : List (List ℕ)) → Blocks (M.Method.width self.now.parts.count) us → Agree (take self.now.parts.count self.now.parts.unread) (take self.now.parts.count self.now.parts.blocks) (M.Method.row self.now.parts.count self.now.parts.strip us) → result ≡ slice_index_or (M.Method.row self.now.parts.count self.now.parts.strip us) m [] }
+        ensures { FromRow M.Method self.now.parts.count self.now.parts.strip (take self.now.parts.count self.now.parts.unread) (take self.now.parts.count self.now.parts.blocks) (λ us. result ≡ slice_index_or (M.Method.row self.now.parts.count self.now.parts.strip us) m []) }
     {
         let count = self.parts.count;
         let mut blocks = self.parts.blocks;
@@ -107,7 +108,7 @@ impl<M: Method> Known<M> {
     // User block `p`.
     pub(crate) fn user(&self, p: usize) -> Block
         requires { p < M.Method.width self.now.parts.count }
-        ensures { (us : List (List ℕ)) → Blocks (M.Method.width self.now.parts.count) us → Agree (take self.now.parts.count self.now.parts.unread) (take self.now.parts.count self.now.parts.blocks) (M.Method.row self.now.parts.count self.now.parts.strip us) → result ≡ slice_index_or us p [] }
+        ensures { FromRow M.Method self.now.parts.count self.now.parts.strip (take self.now.parts.count self.now.parts.unread) (take self.now.parts.count self.now.parts.blocks) (λ us. result ≡ slice_index_or us p []) }
     {
         self.block(place::<M>(self.parts.count, self.parts.strip, p))
     }
@@ -115,11 +116,12 @@ impl<M: Method> Known<M> {
     // All blocks of the row with another user block `p`.
     pub(crate) fn replaced(&self, p: usize, new: &Block) -> [Block; MOST_MEMBERS]
         requires { p < M.Method.width self.now.parts.count }
-        ensures { (us : List (List ℕ)) → Blocks (M.Method.width self.now.parts.count) us → Agree (take self.now.parts.count self.now.parts.unread) (take self.now.parts.count self.now.parts.blocks) (M.Method.row self.now.parts.count self.now.parts.strip us) → take self.now.parts.count result ≡ M.Method.row self.now.parts.count self.now.parts.strip (slice_set us p new.now) }
+        ensures { FromRow M.Method self.now.parts.count self.now.parts.strip (take self.now.parts.count self.now.parts.unread) (take self.now.parts.count self.now.parts.blocks) (λ us. take self.now.parts.count result ≡ M.Method.row self.now.parts.count self.now.parts.strip (slice_set us p new.now)) }
     {
         let count = self.parts.count;
         let mut blocks = self.parts.blocks;
         let unread = &self.parts.unread[..count];
+        // It is not refused: enough were read, and the row has the block.
         let _ = replace_user::<M>(self.parts.strip, &mut blocks[..count], unread, p, new);
         blocks
     }

@@ -1,5 +1,5 @@
 // Reading, writing and rebuilding one block of a row.
-ghost use Rattle.std.specs.Prelude.{◌≡◌, ℕ, ◌+◌, ◌<◌, ◌≤◌, List, length, take, slice_set};
+ghost use Rattle.std.specs.Prelude.{◌≡◌, ℕ, ◌<◌, ◌≤◌, List, length, slice_set};
 ghost use Rattle.layout.specs.Blocks.{Blocks};
 ghost use Rattle.group.specs.declared.fault.RowFault.TheVariants.{Lost};
 ghost use Rattle.group.specs.Group.{member as memberOf, Shape, RowHolds, Frame, Ours, InRow, NoBlock, ItsBlock};
@@ -14,7 +14,7 @@ use layout::method::Method;
 use std::marker::PhantomData;
 
 // `Shape` speaks of the bus too, and stays a clause: with the bus in the row, each call would have to say instead that the
-// row is the same after it.
+// row is the same after it. A user block `p` is no struct with its row either: rebuilding has none.
 
 // A row of a group: its number, the strip that it is of, and the members, as many as a group by the method has.
 #[derive(Drop)]

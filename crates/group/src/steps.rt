@@ -1,5 +1,5 @@
 // One request at a member.
-ghost use Rattle.std.specs.Prelude.{◌≡◌, ℕ, ◌+◌, ◌<◌, ◌≤◌};
+ghost use Rattle.std.specs.Prelude.{◌+◌, ◌<◌};
 ghost use Rattle.bus.specs.Drives.{size};
 ghost use Rattle.group.specs.Steps.{Fetched, Sent, Stores};
 
@@ -7,6 +7,8 @@ use crate::fault::{AtRow, RowFault};
 use crate::member::Member;
 use bus::Bus;
 use layout::block::Block;
+
+// That the row lies on the member's drive stays a clause: it speaks of the bus too.
 
 impl Member {
     // The member's block of a row, if it is not missing and its drive gives it.

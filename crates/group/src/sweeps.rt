@@ -1,5 +1,5 @@
 // Going over the members of a row.
-ghost use Rattle.std.specs.Prelude.{◌≡◌, ℕ, ◌+◌, ◌<◌, ◌≤◌, true, length, take, MatchOption};
+ghost use Rattle.std.specs.Prelude.{◌≡◌, ◌<◌, true, length, take, MatchOption};
 ghost use Rattle.layout.specs.Blocks.{missing_count};
 ghost use Rattle.group.specs.Group.{member as memberOf, missing, missings, RowLost, Shape, Frame, Ours, NoBlock};
 ghost use Rattle.group.specs.Sweeps.{Gathered, Spread, concerned};

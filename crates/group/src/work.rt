@@ -1,5 +1,5 @@
 //! The calls on a group.
-ghost use Rattle.std.specs.Prelude.{◌≡◌, ℕ, ◌+◌, ◌<◌, ◌≤◌, ◌++◌, length, take, drop, MatchBool};
+ghost use Rattle.std.specs.Prelude.{◌≡◌, ◌+◌, ◌<◌, ◌≤◌, ◌++◌, length, take, drop, MatchBool};
 ghost use Rattle.group.specs.Elsewhere.{OthersHold};
 ghost use Rattle.group.specs.Record.{width_of, members_of, Lies, Admits, Blamable, raised, Reads, Writes, Prepares, Rebuilds};
 
@@ -38,6 +38,7 @@ impl Group {
         if len < BLOCK {
             return Err(GroupFault::Short);
         }
+        // A place is refused only where the block lies outside.
         let place = self
             .geometry
             .locate::<M>(q)

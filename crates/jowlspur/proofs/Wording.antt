@@ -1,6 +1,7 @@
 -- Which word of the language a word is.
-use Rattle.std.proofs.Common.{◌≡◌, ℕ, Bool, true, false, ◌⊎◌, List, length, Ok, Err, codes, Result, sym, refl, subst, inl, inr}
+use Rattle.std.proofs.Common.{◌≡◌, ℕ, false, ◌⊎◌, List, length, Ok, Err, codes, Result, sym, refl, subst, inl, inr}
 use Rattle.std.specs.Str.{bytes_eq}
+use Rattle.std.proofs.lemmas.Bool.{false_from_ne_true}
 use Rattle.std.proofs.lemmas.Slice.Eq.{bytes_eq-Decides, HasBytesAt}
 use Rattle.jowlspur.specs.declared.request.Request.{Request}
 use Rattle.jowlspur.specs.declared.wrong.Wrong.{Wrong}
@@ -19,11 +20,7 @@ known name w ws V r e f h =
     subst P (sym e) (weaker V (Buffered name) (asked_by name ws) r f h)
 
 not_word : (w p : List ℕ) → (w ≡ p → ⊥) → bytes_eq w p ≡ false
-not_word w p h = elim_false (bytes_eq w p) (λ e. h ((bytes_eq-Decides w p).0 e))
-  where
-    elim_false : (b : Bool) → (b ≡ true → ⊥) → b ≡ false
-    elim_false true k = absurd (k refl)
-    elim_false false k = refl
+not_word w p h = false_from_ne_true (bytes_eq w p) (λ e. h ((bytes_eq-Decides w p).0 e))
 
 -- w has the length of p, and its bytes
 abbrev Same : List ℕ → List ℕ → Type 0

@@ -73,6 +73,7 @@ fn marks(out: &mut Vec<u8>, shelf: &Shelf) -> Result<(), AllocError>
     ensures { Grown result (marks_of (on shelf.now)) out.old.items out.new.items }
 {
     put(out, b"ok")?;
+    // A bus is asked for a drive by its number.
     for d in 0..shelf.count() {
         put(out, mark(shelf.broken(d)))?;
     }

@@ -36,7 +36,20 @@ struct Console<R, W> {
 }
 
 impl<R: BufRead, W: Write> Console<R, W> {
-    // Reads a line without its end; false where there is none.
+    // Before its first line.
+    fn new(heap: Global, input: R, output: W) -> Console<R, W> {
+        Console {
+            heap,
+            input,
+            output,
+            line: Vec::new(heap),
+            number: 0,
+            out: Vec::new(heap),
+            malformed: false,
+        }
+    }
+
+    // Reads a line without its end; false where there is none. It is no Option of a line, since one buffer serves for all.
     fn read_line(&mut self) -> io::Result<bool> {
         self.line.clear();
         let n = self.input.read_until(b'\n', &mut self.line)?;
@@ -137,15 +150,9 @@ fn run<R: BufRead, W: Write>(console: &mut Console<R, W>) -> io::Result<()> {
 
 fn main(rt: HostRuntime) -> anyhow::Result<()> {
     let heap = rt.alloc();
-    let mut console = Console {
-        heap,
-        input: BufReader::new(heap, rt.stdin())?,
-        output: BufWriter::new(heap, rt.stdout())?,
-        line: Vec::new(heap),
-        number: 0,
-        out: Vec::new(heap),
-        malformed: false,
-    };
+    let input = BufReader::new(heap, rt.stdin())?;
+    let output = BufWriter::new(heap, rt.stdout())?;
+    let mut console = Console::new(heap, input, output);
     run(&mut console)?;
     if console.malformed {
         return Err(anyhow!("a line was malformed"));
@@ -185,15 +192,7 @@ refused 4
     #[test]
     fn malformed_lines_are_passed_over(rt: HostRuntime) -> Result<(), Fail> {
         let heap = rt.alloc();
-        let mut console = Console {
-            heap,
-            input: SCRIPT,
-            output: Vec::new(heap),
-            line: Vec::new(heap),
-            number: 0,
-            out: Vec::new(heap),
-            malformed: false,
-        };
+        let mut console = Console::new(heap, SCRIPT, Vec::new(heap));
         run(&mut console)?;
         assert!(rt; console.malformed);
         assert!(rt; console.output.as_slice() == ANSWERS);

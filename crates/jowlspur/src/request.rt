@@ -31,6 +31,7 @@ fn add_word(word: &[u8], bytes: &mut Vec<u8>) -> Result<(), Wrong>
 }
 
 // A buffer of `length` bytes that were never written.
+#[tactic(auto, using(crate::proofs::Parsing::buffer_long, crate::proofs::Parsing::buffer_fits))]
 fn fresh_buffer(heap: Global, length: usize) -> Result<Vec<u8>, Wrong>
     ensures { MatchResult result (λ v. buffer_of length ≡ Ok v.items) (λ e. (buffer_of length ≡ Err e) ⊎ (e ≡ Wrong.NoMemory)) }
 {
@@ -57,6 +58,7 @@ impl<'a> Line<'a> {
     }
 
     // A drive and a block.
+    #[tactic(auto, unfolding(crate::specs::Language::addressed))]
     fn next_address(&mut self) -> Result<BlockAddress, Wrong>
         ensures { addressed (unread self.old) ≡ leaving result (unread self.new) }
     {
@@ -77,6 +79,7 @@ impl<'a> Line<'a> {
         Ok(Some(n as usize))
     }
 
+    #[tactic(auto, using(crate::proofs::Parsing::ended_none, crate::proofs::Parsing::ended_some))]
     fn end(&mut self) -> Result<(), Wrong>
         ensures { result ≡ ended (unread self.old) }
     {

@@ -14,7 +14,7 @@ pub fn bytes_fit(s: &[u8])
 pub fn xor_into(dst: &mut [u8], src: &[u8])
     ensures { dst.new ≡ mixed dst.old src.now }
 {
-    // No zip: after an adapter of `iter_mut` the check knows nothing of `dst`.
+    // No zip: of the adapters of `iter_mut` only under `enumerate` does the check know `dst` in the loop.
     for (i, byte) in dst.iter_mut().enumerate() {
         *byte ^= src.get(i).copied().unwrap_or(0);
     }
@@ -64,6 +64,7 @@ pub fn first_present(missing: &[bool]) -> Option<usize>
 }
 
 /// The laws of the exclusive or hold.
+#[tactic(auto, using(crate::specs::XorBytes::xor_laws))]
 pub fn xor_laws_stand()
     ensures { XorLaws }
 {}

@@ -1,5 +1,5 @@
 //! Extents: runs of blocks of one drive.
-ghost use Rattle.std.specs.Prelude.{◌≡◌, ℕ, ◌+◌, ◌<◌, ◌≤◌, MatchBool, MatchOption};
+ghost use Rattle.std.specs.Prelude.{◌≡◌, ◌+◌, ◌<◌, ◌≤◌, MatchBool, MatchOption};
 ghost use Rattle.std.specs.Option.{SomeIff};
 ghost use Rattle.layout.specs.Extents.{Sound, Covers, Overlap};
 
@@ -23,7 +23,7 @@ pub struct Extent {
 }
 
 impl Extent {
-    // No TryFrom: a row is no extent for one reason alone, which an error type would only name again.
+    // No TryFrom: every caller drops the reason why a row is no extent, so an error type would name what nobody reads.
 
     /// The extent of a row: one, exactly where the row has a block and ends at or below block 65,536.
     pub fn new(row: ExtentRow) -> Option<Extent>

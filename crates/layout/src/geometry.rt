@@ -1,5 +1,5 @@
 //! The geometry of a group, and the place of every block.
-ghost use Rattle.std.specs.Prelude.{◌≡◌, ℕ, ◌+◌, ◌*◌, ◌/◌, ◌%◌, ◌<◌, ◌≤◌, ◌↔◌, true, IsTrue, MatchOption};
+ghost use Rattle.std.specs.Prelude.{◌≡◌, ◌+◌, ◌*◌, ◌/◌, ◌%◌, ◌<◌, ◌≤◌, ◌↔◌, true, IsTrue, MatchOption};
 ghost use Rattle.layout.specs.declared.refusal.Refusal.TheVariants.{OutOfRule, Outside};
 ghost use Rattle.layout.specs.Refusals.{Answered, AnsweredBoth};
 ghost use Rattle.layout.specs.Places.{Fits, PlaceOf, OnePlaceEach, HeldAt, protected};

@@ -5,8 +5,8 @@ ghost use Rattle.layout.specs.Methods.{Sound, Recovers, Updates, capped};
 use crate::block::Block;
 
 // `n` and `t` are no struct: `width_of`, `cycle_of` and `tolerance_of` have no strip, and `recover` has `n` from its row.
-// `blocks` and `missing` are no slice of options: a recovered row is plain blocks, and of a row whose blocks don't agree no
-// clause could say that they are all there.
+// `blocks` and `missing` are no slice of options: a recovered row is plain blocks, and where too many are missing no call fills
+// them in, so that each reader would have to take a block out of an option that may be empty.
 
 /// A method of redundancy: where the user blocks of a row lie, how its check blocks come from them, and how many
 /// members may be missing. No call asks anything of its caller: a call of numbers that no group has answers by the

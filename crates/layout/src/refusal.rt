@@ -12,7 +12,7 @@ pub enum Refusal {
 }
 
 impl Refusal {
-    // Callers print and compare this number, so the enum has it by name.
+    // No From: `u8::from(refusal)` would not say which number that is.
 
     /// The number of the check that failed.
     pub fn number(&self) -> u8

@@ -1,11 +1,12 @@
 //! The work on a row in memory, by any method: marks of its check blocks, and recovering, encoding and replacing.
-ghost use Rattle.std.specs.Prelude.{◌≡◌, ℕ, ◌<◌, ◌≤◌, true, Ok, List, length, slice_index_or};
-ghost use Rattle.layout.specs.Blocks.{Blocks, Agree, AgreeBut};
-ghost use Rattle.layout.specs.Rows.{RightSize, Recoverable, RecoversRow, EncodesRow, ReplacesUser};
+ghost use Rattle.std.specs.Prelude.{◌≡◌, ℕ, ◌<◌, true, Ok, length, slice_index_or};
+ghost use Rattle.layout.specs.Rows.{RightSize, RecoversRow, EncodesRow, ReplacesUser};
 
 use crate::block::{Block, count_missing};
 use crate::geometry::{MOST_MEMBERS, members_fit};
 use crate::method::Method;
+
+// Marks stand beside blocks here too, for the reason that `Method` gives.
 
 /// Why a row stays as it is.
 #[derive(Clone, Copy, PartialEq, Eq, Debug)]

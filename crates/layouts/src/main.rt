@@ -21,8 +21,9 @@ fn print_place<M: Method, W: Write>(out: &mut W, group: &Geometry, q: usize) -> 
     }
 }
 
-fn print_all<M: Method, W: Write>(out: &mut W, group: &Geometry, count: usize) -> io::Result<()> {
-    for q in 0..count {
+fn print_all<M: Method, W: Write>(out: &mut W, group: &Geometry) -> io::Result<()> {
+    // Places are asked for by number.
+    for q in 0..group.protected_blocks::<M>() {
         write!(out, " ")?;
         print_place::<M, W>(out, group, q)?;
     }
@@ -30,12 +31,9 @@ fn print_all<M: Method, W: Write>(out: &mut W, group: &Geometry, count: usize) -
 }
 
 // Places near the ends of strips and of the group.
-fn print_some<M: Method, W: Write>(
-    out: &mut W,
-    group: &Geometry,
-    depth: usize,
-    count: usize,
-) -> io::Result<()> {
+fn print_some<M: Method, W: Write>(out: &mut W, group: &Geometry) -> io::Result<()> {
+    let depth = group.depth();
+    let count = group.protected_blocks::<M>();
     let samples = [
         0,
         1,
@@ -54,6 +52,7 @@ fn print_some<M: Method, W: Write>(
     Ok(())
 }
 
+// The numbers may be no group's, so they are no geometry yet; the name goes along, since a method has none.
 fn print_group<M: Method, W: Write>(
     out: &mut W,
     name: &str,
@@ -68,9 +67,9 @@ fn print_group<M: Method, W: Write>(
             let count = group.protected_blocks::<M>();
             write!(out, "{count}")?;
             if count > MOST_PRINTED {
-                print_some::<M, W>(out, &group, depth, count)?;
+                print_some::<M, W>(out, &group)?;
             } else {
-                print_all::<M, W>(out, &group, count)?;
+                print_all::<M, W>(out, &group)?;
             }
         }
     }
@@ -103,6 +102,7 @@ fn print_groups<M: Method, W: Write>(
 }
 
 fn print_method<M: Method, W: Write>(out: &mut W, name: &str) -> io::Result<()> {
+    // Numbers of members that a group can have, and some that it can't.
     for members in 0..10 {
         for depth in DEPTHS {
             print_groups::<M, W>(out, name, members, depth)?;

@@ -1,7 +1,7 @@
 -- Digit by digit. Assumes nothing.
 use Rattle.std.proofs.Common.{◌≡◌, ℕ, ◌+◌, ◌-◌, ◌*◌, ◌^◌, ◌<◌, ◌≤◌, Bool, true, false, cond, not, eqb, ltb, List, [], ◌∷◌, length, take, drop, Some, None, Option, unwrap_or, refl, ap, ◌∙◌, subst, add_comm, one-add, arith}
 use Rattle.std.specs.Char.{is_ascii_digit}
-use Rattle.std.proofs.lemmas.Bool.{le-ltb, lt-ltb, cond-true, cond-false, ltb-true, ltb-false}
+use Rattle.std.proofs.lemmas.Bool.{le-ltb, lt-ltb, cond-true, cond-false, ltb-false}
 use Rattle.script.specs.Numerals.{and_then, value_after, fitting, numeral, cut_at}
 use Rattle.std.specs.List.{prefix_len}
 use Rattle.script.proofs.Prefix.{First, leading_is}
@@ -14,15 +14,6 @@ too_large m (c ∷ cs) h = by (is_ascii_digit c) (too_large (m * 10 + (c - 48)) 
     by : (b : Bool) → and_then (value_after (m * 10 + (c - 48)) cs) fitting ≡ None → and_then (cond b (value_after (m * 10 + (c - 48)) cs) None) fitting ≡ None
     by true none = none
     by false none = refl
-
--- a digit more
-pub digit_taken : (n c m : ℕ) (cs : List ℕ) → Some m ≡ cond (is_ascii_digit c) (fitting (n * 10 + (c - 48))) None → and_then (value_after n (c ∷ cs)) fitting ≡ and_then (value_after m cs) fitting
-digit_taken n c m cs = by (is_ascii_digit c) (ltb (n * 10 + (c - 48)) (2 ^ 64))
-  where
-    by : (b t : Bool) → Some m ≡ cond b (cond t (Some (n * 10 + (c - 48))) None) None → and_then (cond b (value_after (n * 10 + (c - 48)) cs) None) fitting ≡ and_then (value_after m cs) fitting
-    by true true e = let same : n * 10 + (c - 48) ≡ m = cc in ap (λ x. and_then (value_after x cs) fitting) same
-    by true false e = let z : ◌≡◌ {A = ℕ} 0 1 = cc in absurd (omega arith)
-    by false t e = let z : ◌≡◌ {A = ℕ} 0 1 = cc in absurd (omega arith)
 
 -- a byte that no number goes on with
 pub digit_refused : (n c : ℕ) (cs : List ℕ) → None ≡ cond (is_ascii_digit c) (fitting (n * 10 + (c - 48))) None → and_then (value_after n (c ∷ cs)) fitting ≡ None
@@ -39,14 +30,6 @@ fits n h = cond-true _ (Some n) None (lt-ltb n (2 ^ 64) h)
 pub numeral_some : (w : List ℕ) → 0 < length w → numeral w ≡ and_then (value_after 0 w) fitting
 numeral_some [] h = absurd (omega arith)
 numeral_some (c ∷ cs) h = refl
-
-pub taken_fits : (n c m : ℕ) → Some m ≡ cond (is_ascii_digit c) (fitting (n * 10 + (c - 48))) None → m < 2 ^ 64
-taken_fits n c m = by (is_ascii_digit c) (ltb (n * 10 + (c - 48)) (2 ^ 64)) refl
-  where
-    by : (b t : Bool) → ltb (n * 10 + (c - 48)) (2 ^ 64) ≡ t → Some m ≡ cond b (cond t (Some (n * 10 + (c - 48))) None) None → m < 2 ^ 64
-    by true true h e = let same : n * 10 + (c - 48) ≡ m = cc in omega (arith, ltb-true _ _ h)
-    by true false h e = let z : ◌≡◌ {A = ℕ} 0 1 = cc in absurd (omega arith)
-    by false t h e = let z : ◌≡◌ {A = ℕ} 0 1 = cc in absurd (omega arith)
 
 -- what stands before the first `at`, and what behind it, by its place
 module _ (at : ℕ) where

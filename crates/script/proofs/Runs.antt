@@ -56,10 +56,6 @@ abbrev pub rest_shown : List ℕ → List ℕ → List ℕ
 rest_shown sep [] = []
 rest_shown sep (b ∷ bs) = sep ++ shown_runs (b ∷ bs)
 
-pub all_shown : (bs : List ℕ) → rest_shown [] bs ≡ shown_runs bs
-all_shown [] = refl
-all_shown (b ∷ bs) = refl
-
 rest_some : (sep bs : List ℕ) → 0 < length bs → rest_shown sep bs ≡ sep ++ shown_runs bs
 rest_some sep [] h = absurd (omega arith)
 rest_some sep (b ∷ bs) h = refl

@@ -1,4 +1,4 @@
-ghost use Rattle.std.specs.Prelude.{◌≡◌, ◌+◌, ◌/◌, is_some, ◌<◌, ◌≤◌, ◌++◌, length, replicate, vec_len, vec_capacity, MatchResult};
+ghost use Rattle.std.specs.Prelude.{◌≡◌, ◌+◌, ◌/◌, is_some, ◌<◌, ◌≤◌, ◌++◌, length, vec_len, vec_capacity, MatchResult};
 ghost use Rattle.script.specs.Spelling.{hex_value, pair, one_byte, paired, plain, run, spelled, Added};
 ghost use Rattle.script.specs.declared.bytes.BytesFault.TheVariants.{TooLong, NoMemory};
 
@@ -59,6 +59,8 @@ fn longer(len: usize, more: usize, limit: usize) -> Result<usize, BytesFault>
         _ => Err(BytesFault::TooLong),
     }
 }
+
+// `limit` goes along with `out` through three functions; a struct of them would be made for one word.
 
 // Adds the bytes of a word `COUNT*BB`, given as its two parts.
 fn add_run(count: &[u8], value: &[u8], limit: usize, out: &mut Vec<u8>) -> Result<(), BytesFault>

@@ -1,6 +1,6 @@
-ghost use Rattle.std.specs.Prelude.{◌≡◌, ◌<◌, ◌++◌, length, IfOk, decimal};
+ghost use Rattle.std.specs.Prelude.{◌≡◌, ◌<◌, decimal};
 ghost use Rattle.std.specs.Char.{digit_char};
-ghost use Rattle.script.specs.Showing.{shown_run, shown_runs, shown, Extends, Grown, Written};
+ghost use Rattle.script.specs.Showing.{shown_run, shown_runs, shown, Grown, Written};
 
 use crate::front::leading;
 use itoa::Buffer;
