@@ -64,7 +64,8 @@ fn build(kind: MethodKind, g: usize, depth: usize, extents: &[ExtentRow]) -> Opt
     Some(GroupSlot { kind, group })
 }
 
-// A fill's fault. Of these only `Failed` is possible where the extents lie on the bus.
+// A fill's fault. Of these only `Failed` is possible where the extents lie on the bus; no From, since of another call they mean
+// something else.
 fn broken(fault: GroupFault) -> Refused
     ensures { result ≡ broken_by fault }
 {

@@ -42,7 +42,7 @@ pub struct Sense {
 }
 
 // Two variants and no option of a block of a volume set: faults are enums from the bus up, and the variant says how far this one
-// came. The fields are named one by one, as a refusal is printed.
+// came.
 
 /// The drive that a refusal names, with all that is known of it.
 #[derive(Clone, Copy, PartialEq, Eq, Debug)]

@@ -3,8 +3,8 @@ ghost use Rattle.bus.specs.Numbers.{number_of, address_of, drive_of, block_of, r
 
 use crate::address::BlockAddress;
 
-// Why a request was refused, with the block that it named. An enum and no struct of a cause and a block, as all faults up from here
-// are enums that `?` hands on.
+// Why a request was refused, with the block that it named. An enum and no struct of a cause and a block: all faults from here
+// up are enums that `?` hands on.
 #[derive(Clone, Copy, PartialEq, Eq, Debug)]
 pub enum BusFault {
     // There is no such drive.
@@ -54,7 +54,7 @@ impl BusFault {
         self.at().block
     }
 
-    // The same fault of another drive.
+    // The same fault of another drive. Each case stays what it is, so it is named on both sides.
     pub fn at_drive(self, d: usize) -> BusFault
         ensures { result ≡ renumbered d self }
     {

@@ -51,6 +51,8 @@ impl<'b, B: Bus> Bus for &'b mut B {
         (**self).broken(d)
     }
 
+    // A read and a write are two functions, here and in every bus: the one is lent its buffer to fill, the other to look at.
+
     fn read(&mut self, at: BlockAddress, buf: &mut [u8]) -> Result<(), BusFault> {
         (**self).read(at, buf)
     }

@@ -119,6 +119,8 @@ impl<B: Bus> Bus for BreakingBus<B> {
         self.below.broken(d) || is_gone(self.left_of(d))
     }
 
+    // A read and a write, as in `Bus`: their buffers are lent in two ways.
+
     fn read(&mut self, at: BlockAddress, buf: &mut [u8]) -> Result<(), BusFault>
         ensures reads { Reads (marked (B.Bus.drives self.old.below) self.old.left) (marked (B.Bus.drives self.new.below) self.new.left) at.drive at.block buf.old buf.new result }
         ensures counts { Counts (B.Bus.drives self.old.below) (B.Bus.drives self.new.below) self.old.left self.new.left at.drive at.block (length buf.old) }

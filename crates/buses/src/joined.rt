@@ -79,6 +79,8 @@ impl<A: Bus, B: Bus> Bus for JoinedBus<A, B> {
         if n > MOST_DRIVES { 0 } else { n }
     }
 
+    // Three cases in four functions: each asks its own bus by another call, with its own answer where there are too many drives.
+
     fn capacity(&self, d: usize) -> usize {
         match self.side(d) {
             Some(Side::First) => self.first.capacity(d),

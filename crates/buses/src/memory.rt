@@ -26,7 +26,7 @@ fn start_of(capacity: usize, at: BlockAddress) -> usize
 }
 
 // Whether a request with `len` bytes reaches one of `drives`, or what is wrong with it, in the order in which it is asked.
-// `at` and `len` are no struct: a caller has the buffer, and its length is asked here alone.
+// `at` and `len` are no struct: who asks has the buffer itself.
 fn reach(drives: Drives, at: BlockAddress, len: usize) -> Result<(), BusFault>
     ensures { Refuses drives.number drives.capacity at.drive at.block len result }
 {

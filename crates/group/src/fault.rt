@@ -21,6 +21,8 @@ pub enum RowFault {
     },
 }
 
+// A trait, as `Result` is not ours: the question mark hands a drive's fault on, with its row and member, by one word.
+
 /// A drive's answer, seen from the row that asked: `bus.write(..).at_row(member, row)?`.
 pub trait AtRow<T>: Sized {
     ghost at: { Self → ℕ → ℕ → Res T TheFault };

@@ -81,4 +81,4 @@ pub record Making (v : BusDrives) (m : Memory) : Type 0 where
 abbrev pub Made : BusDrives → Result Memory Unmade → Type 0
 Made v (Ok m) = Making v m
 Made v (Err (Unfit e)) = (a b : ℕ) → Filling v a b → ⊥
-Made v (Err NoMemory) = Unit {0}
+Made v (Err NoMemory) = (a : ℕ) × (b : ℕ) × Filling v a b

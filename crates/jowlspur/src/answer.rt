@@ -41,6 +41,7 @@ pub fn number_refused(out: &mut Vec<u8>, number: u8) -> Result<(), AllocError>
     show_number(number as u64, out)
 }
 
+// Text for `put` too, and no `Display`.
 fn done(out: &mut Vec<u8>, answer: Result<(), BusFault>) -> Result<(), AllocError>
     ensures { Grown result (answered answer []) out.old.items out.new.items }
 {

@@ -112,7 +112,8 @@ impl<'a> Line<'a> {
         Ok(Request::Bus(BusDrives { first, second }))
     }
 
-    // The drives of the bus that is joined, which end the line; none where nothing is left.
+    // The drives of the bus that is joined, which end the line. Where nothing is left it has none, and is no Option, so that
+    // the program has one type of bus.
     fn joined(&mut self) -> Result<Drives, Wrong>
         ensures { result ≡ second_drives (unread self.old) }
     {

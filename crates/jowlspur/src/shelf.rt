@@ -124,7 +124,7 @@ impl Memory {
     }
 }
 
-// The block `at`, its drive broken or not.
+// The block `at`, its drive broken or not; a joined bus reads only as a bus, which is asked here for its two sides.
 pub fn raw(shelf: &Shelf, at: BlockAddress, buf: &mut [u8]) -> Result<(), BusFault>
     ensures { Reads (behind shelf.now) (behind shelf.now) at.drive at.block buf.old buf.new result }
 {

@@ -10,7 +10,7 @@ use crate::refusal::Refusal;
 /// The most members of a group.
 pub const MOST_MEMBERS: usize = 8;
 
-// Whether a group by the method `M` may have `n` members.
+// Whether a group by the method `M` may have `n` members, for the work on rows; the check of a geometry asks it itself.
 pub(crate) fn members_fit<M: Method>(n: usize) -> bool
     ensures { IsTrue result ↔ ((M.Method.LEAST ≤ n) × (n ≤ 8)) }
 {

@@ -24,7 +24,7 @@ impl From<AllocError> for BytesFault {
     }
 }
 
-// The value of a hexadecimal digit, and 0 for any other byte.
+// The value of a hexadecimal digit, and 0 for any other byte: callers have looked, or give pairs of digits alone.
 fn hex_value(digit: u8) -> u8
     ensures value { result ≡ hex_value digit }
     ensures bound { result < 16 }
