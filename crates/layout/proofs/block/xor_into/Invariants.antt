@@ -3,4 +3,4 @@ use Rattle.layout.specs.Blocks.{xor}
 use Rattle.layout.proofs.block.xor_into.Given as goal
 
 abbrev pub invariant-loop-i : goal.invariant-loop-i
-invariant-loop-i l = l.dst ≡ xor l.initial.dst (take l.i l.src)
+invariant-loop-i l = l.byte-items ≡ xor l.initial.byte-items (take l.i l.src)
