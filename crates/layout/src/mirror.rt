@@ -61,7 +61,9 @@ impl Method for Mirror {
     }
 
     fn recover(_t: usize, blocks: &mut [Block], missing: &[bool]) {
-        if let Some(from) = first_present(missing).filter(|from| *from < blocks.len()) {
+        // Where no mark says that a member is present, the member after the marks counts as the first, if there is one.
+        let from = first_present(missing).unwrap_or(missing.len());
+        if from < blocks.len() {
             let block = blocks[from];
             blocks.fill(block);
         }

@@ -71,7 +71,9 @@ impl Method for Parity {
     }
 
     fn recover(_t: usize, blocks: &mut [Block], missing: &[bool]) {
-        if let Some(m) = first_missing(missing).filter(|m| *m < blocks.len()) {
+        // Where no mark says that a member is missing, the member after the marks counts as the first, if there is one.
+        let m = first_missing(missing).unwrap_or(missing.len());
+        if m < blocks.len() {
             let block = xor_others(blocks, m);
             blocks[m] = block;
         }
