@@ -1,6 +1,7 @@
 -- Byte strings, digit by digit. Assumes nothing.
 use Rattle.std.specs.Simd.{first_chunks}
 use Rattle.std.specs.List.{list_all}
+use Rattle.std.proofs.Math.Bool.{and-false}
 use Rattle.std.proofs.Common.{suc, zero, is_some, map, ◌&&◌, eqb, subst, ◌≡◌, ℕ, ◌+◌, ◌/◌, ◌%◌, ◌<◌, Bool, true, false, cond, List, [], ◌∷◌, length, get_or, replicate, Some, None, Err, Option, sym, refl, ap, ◌∙◌, arith}
 use Rattle.std.specs.Char.{is_ascii_hexdigit}
 use Rattle.script.specs.declared.bytes.BytesFault.{BytesFault}
@@ -26,24 +27,20 @@ length_paired (c ∷ d ∷ l) = omega (arith, length_paired l)
 
 -- a word is an even number of digits, or stands for nothing
 
-pub plain_test : (l : List ℕ) → is_some (plain l) ≡ list_all is_ascii_hexdigit l && eqb (length l % 2) 0
+pub plain_test : (l : List ℕ) → is_some (plain l) ≡ eqb (length l % 2) 0 && list_all is_ascii_hexdigit l
 plain_test [] = refl
-plain_test (c ∷ []) = by (is_ascii_hexdigit c)
-  where
-    by : (b : Bool) → false ≡ (b && true) && false
-    by true = refl
-    by false = refl
+plain_test (c ∷ []) = refl
 plain_test (c ∷ d ∷ l) = by (is_ascii_hexdigit c) (is_ascii_hexdigit d) (plain_test l)
   where
     more : (o : Option (List ℕ)) → is_some (and_then o (λ bs. Some (pair c d ∷ bs))) ≡ is_some o
     more None = refl
     more (Some bs) = refl
 
-    by : (s t : Bool) → is_some (plain l) ≡ list_all is_ascii_hexdigit l && eqb (length l % 2) 0 →
-        is_some (cond s (cond t (and_then (plain l) (λ bs. Some (pair c d ∷ bs))) None) None) ≡ (s && (t && list_all is_ascii_hexdigit l)) && eqb (length (c ∷ d ∷ l) % 2) 0
-    by true true e = let same : length l % 2 ≡ length (c ∷ d ∷ l) % 2 = omega arith in more (plain l) ∙ e ∙ ap (λ k. list_all is_ascii_hexdigit l && eqb k 0) same
-    by true false e = refl
-    by false t e = refl
+    by : (s t : Bool) → is_some (plain l) ≡ eqb (length l % 2) 0 && list_all is_ascii_hexdigit l →
+        is_some (cond s (cond t (and_then (plain l) (λ bs. Some (pair c d ∷ bs))) None) None) ≡ eqb (length (c ∷ d ∷ l) % 2) 0 && (s && (t && list_all is_ascii_hexdigit l))
+    by true true e = let same : length l % 2 ≡ length (c ∷ d ∷ l) % 2 = omega arith in more (plain l) ∙ e ∙ ap (λ k. eqb k 0 && list_all is_ascii_hexdigit l) same
+    by true false e = sym (and-false (eqb (length (c ∷ d ∷ l) % 2) 0))
+    by false t e = sym (and-false (eqb (length (c ∷ d ∷ l) % 2) 0))
 
 pub plain_paired : (l : List ℕ) → is_some (plain l) ≡ true → plain l ≡ Some (paired l)
 plain_paired [] h = refl

@@ -84,11 +84,11 @@ fn push_pairs(digits: &[u8], out: &mut Vec<u8>)
     }
 }
 
-// Whether a word is an even number of hexadecimal digits.
+// Whether a word is an even number of hexadecimal digits; an odd length is refused with no look at them.
 fn is_plain(word: &[u8]) -> bool
     ensures { result ≡ (is_some (plain word.now)) }
 {
-    word.iter().all(|digit| digit.is_ascii_hexdigit()) && word.len() % 2 == 0
+    word.len() % 2 == 0 && word.iter().all(|digit| digit.is_ascii_hexdigit())
 }
 
 // Adds the bytes of a word of hexadecimal digits.

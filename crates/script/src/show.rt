@@ -17,6 +17,11 @@ fn hex_digit(n: u8) -> u8
 pub fn show_number(n: u64, out: &mut Vec<u8>) -> Result<(), AllocError>
     ensures { Written result (decimal n) out.old.items out.new.items }
 {
+    // A block of short runs shows mostly numbers of one digit, and these need no buffer.
+    if n < 10 {
+        out.push(b'0' + n as u8)?;
+        return Ok(());
+    }
     let mut digits = Buffer::new();
     out.extend_from_slice(digits.format(n).as_bytes())
 }
@@ -33,11 +38,13 @@ fn push_shown_run(n: u64, b: u8, out: &mut Vec<u8>) -> Result<(), AllocError>
 fn push_runs(bytes: &[u8], out: &mut Vec<u8>) -> Result<(), AllocError>
     ensures { Grown result (shown_runs bytes.now) out.old.items out.new.items }
 {
-    let mut between: &[u8] = b"";
+    let mut first = true;
     for run in bytes.chunk_by(|a, b| a == b) {
-        out.extend_from_slice(between)?;
+        if !first {
+            out.push(b' ')?;
+        }
         push_shown_run(run.len() as u64, run[0], out)?;
-        between = b" ";
+        first = false;
     }
     Ok(())
 }
