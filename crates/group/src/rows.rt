@@ -73,10 +73,11 @@ impl<'a, M: Method> Row<'a, M> {
         ensures { Intact (M.Method.tolerance (length self.now.members.now)) (B.Bus.drives bus.now) self.now.row self.now.members.now result }
     {
         let gone = self.count_missing(bus);
-        match self.first_missing(bus) {
-            Some(i) if gone > self.tolerance() => Err(self.lost(i)),
-            _ => Ok(()),
+        if gone <= self.tolerance() {
+            return Ok(());
         }
+        // There is one: more are missing than may be.
+        Err(self.lost(self.first_missing(bus).unwrap()))
     }
 
     // Refuses where the row is lost and the member `i` is missing.
