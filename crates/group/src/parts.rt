@@ -1,5 +1,5 @@
 // What is in memory of a row.
-ghost use Rattle.std.specs.Prelude.{◌≡◌, ℕ, ◌<◌, ◌≤◌, true, false, MatchOption, [], length, take, slice_index_or, slice_set};
+ghost use Rattle.std.specs.Prelude.{◌≡◌, ℕ, ◌<◌, ◌≤◌, true, false, MatchOption, [], length, slice_index_or, slice_set};
 ghost use Rattle.layout.specs.Blocks.{missing_count};
 ghost use Rattle.group.specs.Sweeps.{FromRow};
 
@@ -9,21 +9,20 @@ use layout::method::Method;
 use layout::row::replace_user;
 use std::marker::PhantomData;
 
-// No heap here: room for as many members as a group can have, of which `count` are there. The marks are no options of
-// blocks, since a method recovers a row of plain blocks.
+// No heap here: who works on a row has room for as many members as a group can have, and lends as much of it as there are
+// members; a row with the room in it would be copied, 4 KiB, wherever it is moved. The marks are no options of blocks,
+// since a method recovers a row of plain blocks.
 
-// The blocks of a row of `count` members, in a strip, and marks of the members that were not read.
+// The blocks of a row, in a strip, and marks of the members that were not read.
 #[derive(Drop)]
-pub(crate) struct Parts<M: Method> {
-    pub(crate) count: usize,
+pub(crate) struct Parts<'p, M: Method> {
     pub(crate) strip: usize,
-    pub(crate) blocks: [Block; MOST_MEMBERS],
-    pub(crate) unread: [bool; MOST_MEMBERS],
+    pub(crate) blocks: &'p mut [Block],
+    pub(crate) unread: &'p mut [bool],
     method: PhantomData<M>,
-    ghost enough: { M.Method.LEAST ≤ count },
-    ghost few: { count ≤ 8 },
-    ghost eight_blocks: { length blocks ≡ 8 },
-    ghost eight_marks: { length unread ≡ 8 },
+    ghost enough: { M.Method.LEAST ≤ length blocks.now },
+    ghost few: { length blocks.now ≤ 8 },
+    ghost marked: { length unread.now ≡ length blocks.now },
 }
 
 // The member that holds user block `p` of a row in strip `t`.
@@ -34,48 +33,54 @@ pub(crate) fn place<M: Method>(n: usize, t: usize, p: usize) -> usize
     M::home_of(n, t, p)
 }
 
-impl<M: Method> Parts<M> {
-    // Nothing was read.
-    pub(crate) fn new(count: usize, strip: usize) -> Parts<M>
+impl<'p, M: Method> Parts<'p, M> {
+    // Nothing was read, of `count` members; `blocks` and `unread` are room for what will be.
+    pub(crate) fn new(
+        count: usize,
+        strip: usize,
+        blocks: &'p mut [Block; MOST_MEMBERS],
+        unread: &'p mut [bool; MOST_MEMBERS],
+    ) -> Parts<'p, M>
         requires enough { M.Method.LEAST ≤ count }
         requires few { count ≤ 8 }
-        ensures count { result.count ≡ count }
+        ensures count { length result.blocks.now ≡ count }
         ensures strip { result.strip ≡ strip }
-        ensures none { (k : ℕ) → slice_index_or (take count result.unread) k true ≡ true }
+        ensures none { (k : ℕ) → slice_index_or result.unread.now k true ≡ true }
     {
+        let blocks = &mut blocks[..count];
+        let unread = &mut unread[..count];
+        unread.fill(true);
         Parts {
-            count,
             strip,
-            blocks: [[0; 512]; MOST_MEMBERS],
-            unread: [true; MOST_MEMBERS],
+            blocks,
+            unread,
             method: PhantomData,
         }
     }
 
     // How many members were not read.
     pub(crate) fn unread(&self) -> usize
-        ensures { result ≡ missing_count (take self.now.count self.now.unread) }
+        ensures { result ≡ missing_count self.now.unread.now }
     {
-        count_missing(&self.unread[..self.count])
+        count_missing(self.unread)
     }
 
     // The member `i` was read.
     pub(crate) fn put(&mut self, i: usize, block: Block)
-        requires { i < self.old.count }
-        ensures count { self.new.count ≡ self.old.count }
+        requires { i < length self.old.blocks.now }
         ensures strip { self.new.strip ≡ self.old.strip }
-        ensures blocks { take self.old.count self.new.blocks ≡ slice_set (take self.old.count self.old.blocks) i block }
-        ensures unread { take self.old.count self.new.unread ≡ slice_set (take self.old.count self.old.unread) i false }
+        ensures blocks { self.new.blocks.now ≡ slice_set self.old.blocks.now i block }
+        ensures unread { self.new.unread.now ≡ slice_set self.old.unread.now i false }
     {
         self.blocks[i] = block;
         self.unread[i] = false;
     }
 
     // The parts, if enough were read.
-    pub(crate) fn known(self) -> Option<Known<M>>
-        ensures { MatchOption result (M.Method.tolerance self.count < missing_count (take self.count self.unread)) (λ k. k.parts ≡ self) }
+    pub(crate) fn known(self) -> Option<Known<'p, M>>
+        ensures { MatchOption result (M.Method.tolerance (length self.entry.blocks.now) < missing_count self.entry.unread.now) (λ k. k.parts ≡ self.entry) }
     {
-        if self.unread() > M::tolerance_of(self.count) {
+        if self.unread() > M::tolerance_of(self.blocks.len()) {
             return None;
         }
         Some(Known { parts: self })
@@ -84,45 +89,50 @@ impl<M: Method> Parts<M> {
 
 // Parts of a row of which enough were read to know the others.
 #[derive(Drop)]
-pub(crate) struct Known<M: Method> {
-    parts: Parts<M>,
-    ghost enough: { missing_count (take parts.count parts.unread) ≤ M.Method.tolerance parts.count },
+pub(crate) struct Known<'p, M: Method> {
+    parts: Parts<'p, M>,
+    ghost enough: { missing_count parts.unread.now ≤ M.Method.tolerance (length parts.blocks.now) },
 }
 
-impl<M: Method> Known<M> {
+impl<'p, M: Method> Known<'p, M> {
     // The block of member `m`.
-    pub(crate) fn block(&self, m: usize) -> Block
-        requires { m < self.now.parts.count }
-        ensures { FromRow M.Method self.now.parts.count self.now.parts.strip (take self.now.parts.count self.now.parts.unread) (take self.now.parts.count self.now.parts.blocks) (λ us. result ≡ slice_index_or (M.Method.row self.now.parts.count self.now.parts.strip us) m []) }
+    pub(crate) fn block(self, m: usize) -> &'p Block
+        requires { m < length self.parts.blocks.now }
+        ensures { FromRow M.Method (length self.entry.parts.blocks.now) self.entry.parts.strip self.entry.parts.unread.now self.entry.parts.blocks.now (λ us. result.now ≡ slice_index_or (M.Method.row (length self.entry.parts.blocks.now) self.entry.parts.strip us) m []) }
     {
-        let count = self.parts.count;
-        let mut blocks = self.parts.blocks;
-        M::recover(
-            self.parts.strip,
-            &mut blocks[..count],
-            &self.parts.unread[..count],
-        );
-        blocks[m]
+        let Parts {
+            strip,
+            blocks,
+            unread,
+            ..
+        } = self.parts;
+        M::recover(strip, blocks, unread);
+        &blocks[m]
     }
 
     // User block `p`.
-    pub(crate) fn user(&self, p: usize) -> Block
-        requires { p < M.Method.width self.now.parts.count }
-        ensures { FromRow M.Method self.now.parts.count self.now.parts.strip (take self.now.parts.count self.now.parts.unread) (take self.now.parts.count self.now.parts.blocks) (λ us. result ≡ slice_index_or us p []) }
+    pub(crate) fn user(self, p: usize) -> &'p Block
+        requires { p < M.Method.width (length self.parts.blocks.now) }
+        ensures { FromRow M.Method (length self.entry.parts.blocks.now) self.entry.parts.strip self.entry.parts.unread.now self.entry.parts.blocks.now (λ us. result.now ≡ slice_index_or us p []) }
     {
-        self.block(place::<M>(self.parts.count, self.parts.strip, p))
+        let home = place::<M>(self.parts.blocks.len(), self.parts.strip, p);
+        self.block(home)
     }
 
     // All blocks of the row with another user block `p`.
-    pub(crate) fn replaced(&self, p: usize, new: &Block) -> [Block; MOST_MEMBERS]
-        requires { p < M.Method.width self.now.parts.count }
-        ensures { FromRow M.Method self.now.parts.count self.now.parts.strip (take self.now.parts.count self.now.parts.unread) (take self.now.parts.count self.now.parts.blocks) (λ us. take self.now.parts.count result ≡ M.Method.row self.now.parts.count self.now.parts.strip (slice_set us p new.now)) }
+    pub(crate) fn replaced(self, p: usize, new: &Block) -> &'p [Block]
+        requires { p < M.Method.width (length self.parts.blocks.now) }
+        ensures count { length result.now ≡ length self.entry.parts.blocks.now }
+        ensures row { FromRow M.Method (length self.entry.parts.blocks.now) self.entry.parts.strip self.entry.parts.unread.now self.entry.parts.blocks.now (λ us. result.now ≡ M.Method.row (length self.entry.parts.blocks.now) self.entry.parts.strip (slice_set us p new.now)) }
     {
-        let count = self.parts.count;
-        let mut blocks = self.parts.blocks;
-        let unread = &self.parts.unread[..count];
+        let Parts {
+            strip,
+            blocks,
+            unread,
+            ..
+        } = self.parts;
         // It is not refused: enough were read, and the row has the block.
-        let _ = replace_user::<M>(self.parts.strip, &mut blocks[..count], unread, p, new);
+        let _ = replace_user::<M>(strip, blocks, unread, p, new);
         blocks
     }
 }

@@ -10,6 +10,7 @@ use crate::member::Member;
 use crate::parts::place;
 use bus::Bus;
 use layout::block::Block;
+use layout::geometry::MOST_MEMBERS;
 use layout::method::Method;
 use std::marker::PhantomData;
 
@@ -73,10 +74,11 @@ impl<'a, M: Method> Row<'a, M> {
         ensures { Intact (M.Method.tolerance (length self.now.members.now)) (B.Bus.drives bus.now) self.now.row self.now.members.now result }
     {
         let gone = self.count_missing(bus);
-        match self.first_missing(bus) {
-            Some(i) if gone > self.tolerance() => Err(self.lost(i)),
-            _ => Ok(()),
+        if gone <= self.tolerance() {
+            return Ok(());
         }
+        // There is one: more are missing than may be.
+        Err(self.lost(self.first_missing(bus).unwrap()))
     }
 
     // Refuses where the row is lost and the member `i` is missing.
@@ -107,10 +109,13 @@ impl<'a, M: Method> Row<'a, M> {
         if let Some(block) = self.members[home].fetch(bus, self.row) {
             return Ok(block);
         }
-        let Some(known) = self.gather(bus) else {
+        // Only now: a read that its home answers needs no room for a row.
+        let mut blocks = [[0; 512]; MOST_MEMBERS];
+        let mut unread = [true; MOST_MEMBERS];
+        let Some(known) = self.gather(bus, &mut blocks, &mut unread) else {
             return Err(self.lost(home));
         };
-        Ok(known.user(p))
+        Ok(*known.user(p))
     }
 
     // Brings the home of the user block `p`, and the check blocks, to `new`, as far as members are not missing.
@@ -121,8 +126,10 @@ impl<'a, M: Method> Row<'a, M> {
         ensures holds { (us : List (List ℕ)) → Blocks (M.Method.width (length self.now.members.now)) us → RowHolds M.Method self.now.strip (B.Bus.drives bus.old) self.now.row self.now.members.now us → RowHolds M.Method self.now.strip (B.Bus.drives bus.new) self.now.row self.now.members.now (slice_set us p new.now) }
     {
         let home = self.home(p);
-        match self.gather(bus) {
-            Some(known) => self.spread(bus, home, &known.replaced(p, new)),
+        let mut blocks = [[0; 512]; MOST_MEMBERS];
+        let mut unread = [true; MOST_MEMBERS];
+        match self.gather(bus, &mut blocks, &mut unread) {
+            Some(known) => self.spread(bus, home, known.replaced(p, new)),
             None => self.members[home].send(bus, self.row, new),
         }
     }
@@ -149,10 +156,12 @@ impl<'a, M: Method> Row<'a, M> {
         ensures keeps { Keeps M.Method self.now.strip (B.Bus.drives bus.old) (B.Bus.drives bus.new) self.now.row self.now.members.now }
         ensures rebuilds { Rebuilds M.Method self.now.strip (B.Bus.drives bus.old) (B.Bus.drives bus.new) self.now.row self.now.members.now i result }
     {
-        let Some(known) = self.gather(bus) else {
+        let mut blocks = [[0; 512]; MOST_MEMBERS];
+        let mut unread = [true; MOST_MEMBERS];
+        let Some(known) = self.gather(bus, &mut blocks, &mut unread) else {
             return Err(self.lost(i));
         };
         let block = known.block(i);
-        self.members[i].store(bus, i, self.row, &block)
+        self.members[i].store(bus, i, self.row, block)
     }
 }

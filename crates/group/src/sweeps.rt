@@ -1,5 +1,5 @@
 // Going over the members of a row.
-ghost use Rattle.std.specs.Prelude.{◌≡◌, ◌<◌, true, length, take, MatchOption};
+ghost use Rattle.std.specs.Prelude.{◌≡◌, ◌<◌, true, length, MatchOption};
 ghost use Rattle.layout.specs.Blocks.{missing_count};
 ghost use Rattle.group.specs.Group.{member as memberOf, missing, missings, RowLost, Shape, Frame, Ours, NoBlock};
 ghost use Rattle.group.specs.Sweeps.{Gathered, Spread, concerned};
@@ -31,14 +31,19 @@ impl<'a, M: Method> Row<'a, M> {
         self.members.iter().position(|g| g.missing_in(bus, row))
     }
 
-    // Reads members that are not missing, until enough are there; none where the row is lost.
-    pub(crate) fn gather<B: Bus>(&self, bus: &mut B) -> Option<Known<M>>
+    // Reads members that are not missing into the room that is lent, until enough are there; none where the row is lost.
+    pub(crate) fn gather<'p, B: Bus>(
+        &self,
+        bus: &mut B,
+        blocks: &'p mut [Block; MOST_MEMBERS],
+        unread: &'p mut [bool; MOST_MEMBERS],
+    ) -> Option<Known<'p, M>>
         requires { Shape (B.Bus.drives bus.old) self.now.row self.now.members.now }
         ensures frame { Frame (B.Bus.drives bus.old) (B.Bus.drives bus.new) (Ours self.now.members.now) NoBlock }
-        ensures answer { MatchOption result (RowLost (M.Method.tolerance (length self.now.members.now)) (B.Bus.drives bus.new) self.now.row self.now.members.now) (λ k. (k.parts.count ≡ length self.now.members.now) × (k.parts.strip ≡ self.now.strip) × Gathered (M.Method.tolerance (length self.now.members.now)) (B.Bus.drives bus.old) (B.Bus.drives bus.new) self.now.row self.now.members.now (take k.parts.count k.parts.unread) (take k.parts.count k.parts.blocks)) }
+        ensures answer { MatchOption result (RowLost (M.Method.tolerance (length self.now.members.now)) (B.Bus.drives bus.new) self.now.row self.now.members.now) (λ k. (length k.parts.blocks.now ≡ length self.now.members.now) × (k.parts.strip ≡ self.now.strip) × Gathered (M.Method.tolerance (length self.now.members.now)) (B.Bus.drives bus.old) (B.Bus.drives bus.new) self.now.row self.now.members.now k.parts.unread.now k.parts.blocks.now) }
     {
         let tolerance = self.tolerance();
-        let mut parts = Parts::new(self.members.len(), self.strip);
+        let mut parts = Parts::new(self.members.len(), self.strip, blocks, unread);
         for (i, member) in self.members.iter().enumerate() {
             if parts.unread() > tolerance {
                 if let Some(block) = member.fetch(bus, self.row) {
@@ -57,9 +62,10 @@ impl<'a, M: Method> Row<'a, M> {
     }
 
     // Writes the blocks of the home and of the check members that are not missing.
-    pub(crate) fn spread<B: Bus>(&self, bus: &mut B, home: usize, blocks: &[Block; MOST_MEMBERS])
-        requires { Shape (B.Bus.drives bus.old) self.now.row self.now.members.now }
-        ensures { Spread (concerned (M.Method.check (length self.now.members.now) self.now.strip) home) (B.Bus.drives bus.old) (B.Bus.drives bus.new) self.now.row self.now.members.now (take (length self.now.members.now) blocks.now) }
+    pub(crate) fn spread<B: Bus>(&self, bus: &mut B, home: usize, blocks: &[Block])
+        requires shape { Shape (B.Bus.drives bus.old) self.now.row self.now.members.now }
+        requires count { length blocks.now ≡ length self.now.members.now }
+        ensures { Spread (concerned (M.Method.check (length self.now.members.now) self.now.strip) home) (B.Bus.drives bus.old) (B.Bus.drives bus.new) self.now.row self.now.members.now blocks.now }
     {
         for (i, member) in self.members.iter().enumerate() {
             if self.concerns(home, i) {

@@ -1,5 +1,5 @@
-use Rattle.std.proofs.Common.{◌≡◌, ◌<◌, Option, None, Some, MatchOption, length, take, sym, ap, ◌∙◌, subst, arith}
-use Rattle.std.proofs.lemmas.List.{length-take-le}
+use Rattle.std.proofs.Common.{◌≡◌, ◌<◌, Option, None, Some, MatchOption, length, sym, ap, ◌∙◌, subst, arith}
+use Rattle.std.proofs.lemmas.List.{length-set}
 use Rattle.group.specs.Sweeps.{Gathered}
 use Rattle.layout.specs.Blocks.{missing_count}
 use Rattle.group.proofs.Holding.{lost_since}
@@ -16,34 +16,33 @@ loop-i-preserved g c =
     let gs = c.args.self.now.members.now in
     let i = c.loop-i.i in
     let ps = c.loop-i.parts in
-    let o = take ps.count ps.unread in
-    let bs = take ps.count ps.blocks in
+    let o = ps.unread.now in
+    let bs = ps.blocks.now in
     let a = c.loop-i.invariant.gathers in
-    let read : i < length o = omega (arith, length-take-le ps.count ps.unread (omega (arith, ps.few, ps.eight_marks)), c.loop-i.invariant.count, c.loop-i-test.true) in
-    let room : i < length bs = omega (arith, length-take-le ps.count ps.blocks (omega (arith, ps.few, ps.eight_blocks)), c.loop-i.invariant.count, c.loop-i-test.true) in
+    let read : i < length o = omega (arith, ps.marked, c.loop-i.invariant.count, c.loop-i-test.true) in
+    let room : i < length bs = omega (arith, c.loop-i.invariant.count, c.loop-i-test.true) in
     elim c.if-unread-tolerance.branch [
       | then-unread-tolerance+in-Some w ↦
-          let qs = w.put.new.self in
           record {
-            count = ap (λ v. v.count) w.parts-is ∙ w.put.ensures.count ∙ c.loop-i.invariant.count;
+            count = ap (λ v. length v.blocks.now) w.parts-is ∙ ap length w.put.ensures.blocks ∙ length-set c.loop-i.parts.blocks.now c.loop-i.i _ ∙ c.loop-i.invariant.count;
             strip = ap (λ v. v.strip) w.parts-is ∙ w.put.ensures.strip ∙ c.loop-i.invariant.strip;
             gathers = gathers_as st m r gs _ _ _ _ _ _ _ (ap g.B.Bus.drives w.bus-is)
-                (ap (λ v. take v.count v.unread) w.parts-is ∙ ap (λ v. take v qs.unread) w.put.ensures.count ∙ w.put.ensures.unread)
-                (ap (λ v. take v.count v.blocks) w.parts-is ∙ ap (λ v. take v qs.blocks) w.put.ensures.count ∙ w.put.ensures.blocks)
+                (ap (λ v. v.unread.now) w.parts-is ∙ w.put.ensures.unread)
+                (ap (λ v. v.blocks.now) w.parts-is ∙ w.put.ensures.blocks)
                 (gathers_read st m r gs c.requires i s o bs c.loop-i-test.true a (g.B.Bus.drives w.fetch.new.bus) w.in-Some.block read room w.in-Some.ensures);
           }
       | then-unread-tolerance+in_default w ↦
           record {
-            count = ap (λ v. v.count) w.parts-is ∙ c.loop-i.invariant.count;
+            count = ap (λ v. length v.blocks.now) w.parts-is ∙ c.loop-i.invariant.count;
             strip = ap (λ v. v.strip) w.parts-is ∙ c.loop-i.invariant.strip;
-            gathers = gathers_as st m r gs _ _ _ _ _ _ _ (ap g.B.Bus.drives w.bus-is) (ap (λ v. take v.count v.unread) w.parts-is) (ap (λ v. take v.count v.blocks) w.parts-is)
+            gathers = gathers_as st m r gs _ _ _ _ _ _ _ (ap g.B.Bus.drives w.bus-is) (ap (λ v. v.unread.now) w.parts-is) (ap (λ v. v.blocks.now) w.parts-is)
                 (gathers_miss st m r gs c.requires i s o bs c.loop-i-test.true a (g.B.Bus.drives w.fetch.new.bus) w.in_default.ensures);
           }
       | else-unread-tolerance w ↦
           record {
-            count = ap (λ v. v.count) w.parts-is ∙ c.loop-i.invariant.count;
+            count = ap (λ v. length v.blocks.now) w.parts-is ∙ c.loop-i.invariant.count;
             strip = ap (λ v. v.strip) w.parts-is ∙ c.loop-i.invariant.strip;
-            gathers = gathers_as st m r gs _ _ _ _ _ _ _ (ap g.B.Bus.drives w.bus-is) (ap (λ v. take v.count v.unread) w.parts-is) (ap (λ v. take v.count v.blocks) w.parts-is)
+            gathers = gathers_as st m r gs _ _ _ _ _ _ _ (ap g.B.Bus.drives w.bus-is) (ap (λ v. v.unread.now) w.parts-is) (ap (λ v. v.blocks.now) w.parts-is)
                 (gathers_skip st m r gs i s o bs (omega (arith, w.if-unread-tolerance.false, c.unread.ensures)) a);
           }
     ]
@@ -61,14 +60,13 @@ returns-clause-answer g c =
     let row = c.args.self.now in
     let gs = row.members.now in
     let ps = c.loop-i.parts in
-    let o = take ps.count ps.unread in
-    let bs = take ps.count ps.blocks in
+    let o = ps.unread.now in
+    let bs = ps.blocks.now in
     let a = c.loop-i.invariant in
-    let long : length o ≡ ps.count = length-take-le ps.count ps.unread (omega (arith, ps.few, ps.eight_marks)) in
     let got : Gathered (tolerance (length gs)) m n row.row gs o bs =
     subst (λ v. Gathered v m n row.row gs o bs) c.tolerance-tolerance.ensures
-    (gathers_all c.tolerance-tolerance.result m row.row gs c.loop-i.i n o bs (omega (arith, c.loop-i-test.false)) (omega (arith, long, a.count)) a.gathers) in
+    (gathers_all c.tolerance-tolerance.result m row.row gs c.loop-i.i n o bs (omega (arith, c.loop-i-test.false)) (omega (arith, ps.marked, a.count)) a.gathers) in
     otherwise c.known.result _ _ _ _
     (λ l. lost_since (tolerance (length gs)) m n row.row gs o bs got (subst (λ v. tolerance v < missing_count o) a.count l))
-    (λ k e. subst (λ v. (v.count ≡ length gs) × (v.strip ≡ row.strip) × Gathered (tolerance (length gs)) m n row.row gs (take v.count v.unread) (take v.count v.blocks)) (sym e) (a.count, a.strip, got))
+    (λ k e. subst (λ v. (length v.blocks.now ≡ length gs) × (v.strip ≡ row.strip) × Gathered (tolerance (length gs)) m n row.row gs v.unread.now v.blocks.now) (sym e) (a.count, a.strip, got))
     c.known.ensures

@@ -1,5 +1,4 @@
-use Rattle.std.proofs.Common.{◌≡◌, ℕ, ◌<◌, List, [], length, get_or, take, arith}
-use Rattle.std.proofs.lemmas.List.{length-take-le}
+use Rattle.std.proofs.Common.{◌≡◌, ℕ, ◌<◌, List, [], length, get_or, refl, arith}
 use Rattle.group.specs.Group.{member, Frame, Ours, NoBlock, Its}
 use Rattle.group.proofs.Frames.{one_member, frame_trans, frame_wider}
 use Rattle.group.proofs.Holding.{holds_read, known_row}
@@ -34,6 +33,9 @@ returns-clause-gives g c = λ us u h.
     let known = c.in-Some-gather.known in
     let ps = known.parts in
     let told = c.in-Some-gather.ensures.answer in
-    known_row k row.strip row.row gs (λ (l t : ℕ) (vs : List (List ℕ)). c.user.result ≡ get_or vs c.args.p []) (take ps.count ps.unread) (take ps.count ps.blocks) ps.count ps.strip told.0 told.1 _ _ told.2
-    known.enough (length-take-le ps.count ps.blocks (omega (arith, ps.few, ps.eight_blocks))) c.user.ensures us u
+    known_row k row.strip row.row gs (λ (l t : ℕ) (vs : List (List ℕ)). c.user.result.now ≡ get_or vs c.args.p []) ps.unread.now ps.blocks.now (length ps.blocks.now) ps.strip told.0 told.1 _ _ told.2
+    known.enough refl c.user.ensures us u
     (holds_read k row.strip row.row gs _ _ us (tried g (goal.at.returns-clause-gives g c).After-fetch) h)
+
+pub returns-clause-frame : goal.returns-clause-frame
+returns-clause-frame g c = frame_trans _ _ _ (Ours c.args.self.now.members.now) NoBlock (tried g (goal.at.returns-clause-frame g c).After-fetch) c.gather.ensures.frame

@@ -1,5 +1,4 @@
-use Rattle.std.proofs.Common.{◌≡◌, ℕ, List, length, set, take, arith}
-use Rattle.std.proofs.lemmas.List.{length-take-le}
+use Rattle.std.proofs.Common.{◌≡◌, ℕ, List, length, set, refl}
 use Rattle.layout.specs.Blocks.{Whole}
 use Rattle.group.specs.Group.{Ours, NoBlock}
 use Rattle.group.proofs.Holding.{shape_still, holds_read, known_row, holds_sent, holds_spread}
@@ -30,8 +29,8 @@ returns-in-Some-clause-holds g c = λ us u h.
     let ps = known.parts in
     let told = c.in-Some.ensures.answer in
     let w : Whole new = record { long = c.told-new; bytes = c.fits-new } in
-    holds_spread k row.strip row.row gs g.met.M.Method.sound row.enough row.few p c.requires.user us u new a (g.B.Bus.drives c.spread.new.bus) (take (length gs) c.replaced.result) c.home-home.result c.home-home.ensures w
+    holds_spread k row.strip row.row gs g.met.M.Method.sound row.enough row.few p c.requires.user us u new a (g.B.Bus.drives c.spread.new.bus) c.replaced.result.now c.home-home.result c.home-home.ensures w
     (holds_read k row.strip row.row gs m a us c.gather.ensures.frame h)
-    (known_row k row.strip row.row gs (λ (l t : ℕ) (vs : List (List ℕ)). take l c.replaced.result ≡ k.row l t (set vs p new)) (take ps.count ps.unread) (take ps.count ps.blocks) ps.count ps.strip told.0 told.1 m a told.2
-    known.enough (length-take-le ps.count ps.blocks (omega (arith, ps.few, ps.eight_blocks))) c.replaced.ensures us u h)
+    (known_row k row.strip row.row gs (λ (l t : ℕ) (vs : List (List ℕ)). c.replaced.result.now ≡ k.row l t (set vs p new)) ps.unread.now ps.blocks.now (length ps.blocks.now) ps.strip told.0 told.1 m a told.2
+    known.enough refl c.replaced.ensures.row us u h)
     c.spread.ensures

@@ -1,8 +1,5 @@
-use Rattle.std.proofs.Common.{◌+◌, List, [], length, take, sym, ap, ◌∙◌, subst}
-use Rattle.std.proofs.lemmas.List.{get_or-take}
+use Rattle.std.proofs.Common.{◌+◌, List, length, sym, ap, ◌∙◌, subst}
 use Rattle.bus.specs.Drives.{Drive}
-use Rattle.group.specs.Group.{member}
-use Rattle.group.specs.Steps.{Sent}
 use Rattle.group.specs.Sweeps.{concerned}
 use Rattle.group.proofs.Spreading.{Spreads, spreads_skip, spreads_send}
 use Rattle.group.proofs.rows.Row.spread.Goals as goal
@@ -14,14 +11,13 @@ loop-i-preserved g c =
     let s = g.B.Bus.drives c.loop-i.bus in
     let r = c.args.self.now.row in
     let gs = c.args.self.now.members.now in
-    let bs = take (length gs) c.args.blocks.now in
+    let bs = c.args.blocks.now in
     let i = c.loop-i.i in
     let to = concerned (g.M.Method.check (length gs) c.args.self.now.strip) c.args.home in
     elim c.if-concerns.branch [
       | then-concerns w ↦
           subst (λ (x : List Drive). Spreads to m r gs bs (i + 1) x) (sym (ap g.B.Bus.drives w.bus-is))
-          (spreads_send to m r gs bs c.requires i s c.loop-i-test.true c.loop-i.invariant (g.B.Bus.drives w.send.new.bus)
-          (subst (λ v. Sent s (g.B.Bus.drives w.send.new.bus) r (member gs i) v) (sym (get_or-take (length gs) c.args.blocks.now i [] c.loop-i-test.true)) w.send.ensures) (sym c.concerns.ensures ∙ w.if-concerns.true))
+          (spreads_send to m r gs bs c.requires.shape i s c.loop-i-test.true c.loop-i.invariant (g.B.Bus.drives w.send.new.bus) w.send.ensures (sym c.concerns.ensures ∙ w.if-concerns.true))
       | else-concerns w ↦
           subst (λ (x : List Drive). Spreads to m r gs bs (i + 1) x) (sym (ap g.B.Bus.drives w.bus-is))
           (spreads_skip to m r gs bs i s (sym c.concerns.ensures ∙ w.if-concerns.false) c.loop-i.invariant)
