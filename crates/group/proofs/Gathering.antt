@@ -24,8 +24,8 @@ module _ (tolerance : ℕ) (m : List Drive) (r : ℕ) (gs : List Member) where
       subst (λ (x : List Drive). Gathers tolerance m r gs i x p cs) (sym es)
       (subst (λ (x : List Bool). Gathers tolerance m r gs i s x cs) (sym eo) (subst (λ (x : List (List ℕ)). Gathers tolerance m r gs i s o x) (sym eb) h))
 
-  pub gathers_skip : (i : ℕ) (s : List Drive) (o : List Bool) (bs : List (List ℕ)) → missing_count o ≤ tolerance → Gathers tolerance m r gs i s o bs → Gathers tolerance m r gs (i + 1) s o bs
-  gathers_skip i s o bs few a = record {
+  pub gathers_skip : (i j : ℕ) (s : List Drive) (o : List Bool) (bs : List (List ℕ)) → i ≤ j → missing_count o ≤ tolerance → Gathers tolerance m r gs i s o bs → Gathers tolerance m r gs j s o bs
+  gathers_skip i j s o bs le few a = record {
     frame = a.frame;
     known = a.known;
     tried = λ l k h e. absurd (omega arith);

@@ -45,10 +45,11 @@ impl<'a, M: Method> Row<'a, M> {
         let tolerance = self.tolerance();
         let mut parts = Parts::new(self.members.len(), self.strip, blocks, unread);
         for (i, member) in self.members.iter().enumerate() {
-            if parts.unread() > tolerance {
-                if let Some(block) = member.fetch(bus, self.row) {
-                    parts.put(i, block);
-                }
+            if parts.unread() <= tolerance {
+                break;
+            }
+            if let Some(block) = member.fetch(bus, self.row) {
+                parts.put(i, block);
             }
         }
         parts.known()
