@@ -1,8 +1,7 @@
 -- What `all` and `any` answer, by the index of each element.
-use Rattle.std.proofs.Common.{◌≡◌, ℕ, zero, suc, ◌+◌, ◌<◌, ◌≤◌, Bool, true, false, not, List, length, get_or, Option, MatchOption, ◌↔◌, sym, subst, ⊎_elim, arith}
-use Rattle.std.proofs.lemmas.Bool.{MatchBool-at_true, MatchBool-at_false, cases_Bool, cases_eq, both_ways, not-true, not_from_false, false_from_ne_true}
+use Rattle.std.proofs.Common.{◌≡◌, ℕ, ◌<◌, Bool, true, false, not, List, length, get_or, Option, MatchOption, ◌↔◌, ⊎_elim, arith}
+use Rattle.std.proofs.lemmas.Bool.{MatchBool-at_true, MatchBool-at_false, cases_Bool, both_ways, not-true, not_from_false, false_from_ne_true}
 use Rattle.std.proofs.lemmas.Iterator.{YieldsList, cases_from_all, cases_from_any}
-use Rattle.std.specs.Array.{MapsFrom}
 use Rattle.std.specs.Fn.{Called}
 use Rattle.std.specs.Iterator.{YieldsThen}
 use Rattle.std.specs.List.{FoldsTo, AllWithin, HoldsAt}
@@ -41,15 +40,3 @@ none_by_index P n b some = (
   λ t i h p. both_ways b (not-true b t) (some.1 (i, h, p)),
   λ none. not_from_false b (false_from_ne_true b (λ t. let one = some.0 t in none one.0 one.1 one.2)),
 )
-
--- what an array becomes by `map`, where R ties each element to what the closure makes of it
-pub map_by_index : {F A B : Type 0} (g : Mut F (A × Unit {0}) B) (f : F) (R : A → B → Type 0) → ((x : A) (y : B) (q : F) → Called g f (x, tt) y q → (q ≡ f) × R x y) →
-    (xs : List A) (ys : List B) (i n : ℕ) → MapsFrom g f xs ys i n → (d : A) (e : B) (k : ℕ) → i ≤ k → k < i + n → R (get_or xs k d) (get_or ys k e)
-map_by_index g f R each xs ys i zero maps d e k low high = absurd (omega arith)
-map_by_index g f R each xs ys i (suc n) (q, x, y, there, made, call, rest) d e k low high =
-    let told = each x y q call in
-    ⊎_elim
-    (λ (here : k ≡ i).
-    subst (λ (j : ℕ). R (get_or xs j d) (get_or ys j e)) (sym here) (subst (λ z. R z (get_or ys i e)) (sym (there.1 d)) (subst (λ z. R x z) (sym (made.1 e)) told.1)))
-    (λ ne. let far : (k ≡ i → ⊥) = ne in map_by_index g f R each xs ys (i + 1) n (subst (λ p. MapsFrom g p xs ys (i + 1) n) told.0 rest) d e k (omega arith) (omega arith))
-    (cases_eq k i)

@@ -99,11 +99,14 @@ impl Array {
         self.volumes[v] = with_control(self.volumes[v], on);
     }
 
-    // The same of all volume sets.
+    // The same of all volume sets, each where it stands: `map` would move the table several times.
+    #[tactic(auto, using(crate::proofs::Control::control_next))]
     fn control_all(&mut self, on: bool)
         ensures { config self.new ≡ controlled (config self.old) None on }
     {
-        self.volumes = self.volumes.map(|volume| with_control(volume, on));
+        for volume in self.volumes.iter_mut() {
+            *volume = with_control(*volume, on);
+        }
     }
 
     /// Enables or disables the writes of volume set `v`, or of all where none is named.
