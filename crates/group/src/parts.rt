@@ -9,9 +9,9 @@ use layout::method::Method;
 use layout::row::replace_user;
 use std::marker::PhantomData;
 
-// No heap here: who works on a row has room for as many members as a group can have, and lends as much of it as there are
-// members; a row with the room in it would be copied, 4 KiB, wherever it is moved. The marks are no options of blocks,
-// since a method recovers a row of plain blocks.
+// No heap here: who works on a row has room for as many members as a group can have, and lends it; the parts are as much of
+// it as there are members. A struct with the room in it would be copied, 4 KiB, wherever it is moved. The marks are no
+// options of blocks, since a method recovers a row of plain blocks.
 
 // The blocks of a row, in a strip, and marks of the members that were not read.
 #[derive(Drop)]
