@@ -76,12 +76,10 @@ fn overlap(r: Run, s: Run) -> bool
     ensures { IsTrue result ↔ RunsOverlap r s }
 {
     r.group == s.group
-        && r.count > 0
-        && s.count > 0
         && if r.first <= s.first {
-            s.first - r.first < r.count
+            s.count > 0 && s.first - r.first < r.count
         } else {
-            r.first - s.first < s.count
+            r.count > 0 && r.first - s.first < s.count
         }
 }
 
